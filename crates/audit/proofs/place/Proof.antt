@@ -1,0 +1,58 @@
+-- `place` meets its contract: four tests, of the thread that stands there.
+use borrow.Author.Needs.{needs}
+use mathlib.Core.Path.{_≡_, sym, ap, _∙_}
+use mathlib.Core.List.{[]}
+use Prim.Native.Nat.{ℕ}
+use lib.ListN.{getD}
+use Rattle.table.specs.Cells.{modelOf, asThread}
+use Rattle.table.specs.Rows.{thread-at}
+use Rattle.audit.specs.Loops.{seat-test}
+use Rattle.audit.proofs.place.Statement.{statement}
+use Rattle.audit.proofs.place.Tie as tie
+
+read-requires : tie.Need-read-requires
+read-requires c κs = search needs
+
+wide-requires : tie.Need-wide-requires
+wide-requires c κs = search needs
+
+element-copy-out-r : tie.Need-element-copy-out-r
+element-copy-out-r c = search needs
+
+element-copy-out-seated : tie.Need-element-copy-out-seated
+element-copy-out-seated c = search needs
+
+home-requires : tie.Need-home-requires
+home-requires c κs = search needs
+
+fits-requires : tie.Need-fits-requires
+fits-requires c κs = search needs
+
+runs-alone-requires : tie.Need-runs-alone-requires
+runs-alone-requires c κs = search needs
+
+unheard-requires : tie.Need-unheard-requires
+unheard-requires c κs = search needs
+
+returns : tie.Need-returns
+returns c =
+    let f = c .before .before .before .before .before .before .before .before in
+    let t = c .before .before .before .before .before .before .before .read in
+    seat-test (modelOf 0 (f .args .running) (f .args .b .now) (f .args .w .now) []) (f .args .at .now) (f .args .who .now) (f .args .p) _ _ (asThread (t .result)) _ _ _
+    (t .ensures ∙ sym (thread-at 0 (f .args .running) (f .args .b .now) (f .args .w .now) [] (f .args .p) (f .pre)))
+    (ap (λ (n : ℕ). getD (f .args .who .now) n 0) (c .before .before .before .before .before .before .wide .ensures .0))
+    (c .before .before .fits2 .ensures) (c .before .runs-alone .ensures) (c .before .before .before .home .ensures) (c .unheard .ensures (f .args .w .now))
+
+pub place-spec : {M : Type 1} → statement M
+place-spec =
+    tie.close
+    (tie.spec
+    read-requires
+    wide-requires
+    element-copy-out-r
+    element-copy-out-seated
+    home-requires
+    fits-requires
+    runs-alone-requires
+    unheard-requires
+    returns)

@@ -1,0 +1,4 @@
+pub mod Tests
+pub mod Judge
+pub mod Loops
+pub mod Whole

@@ -1,0 +1,291 @@
+// The total test of consistency: any desk and any arrays, however mangled, are told apart into those that stand for a consistent nucleus and those that do
+// not. It goes once along every line and twice along the places, and keeps two arrays on the way: the line of each place, and the place of each number.
+ghost use mathlib.Core.Path.{_≡_};
+ghost use mathlib.Core.List.{List, []};
+ghost use Prim.Native.Nat.{ℕ, _+_, _^_, _<_, _≤_};
+ghost use lib.ListN.{length, getD};
+ghost use Rattle.lists.specs.Tells.{Tells};
+ghost use Rattle.filled.specs.Filled.{wordOf};
+ghost use Rattle.lines.specs.Lines.{Tidy};
+ghost use Rattle.rules.specs.Model.{places, lineCount, thread};
+ghost use Rattle.rules.specs.Consistent.{asTable, isAnswer};
+ghost use Rattle.table.specs.Cells.{threadOf, modelOf, shown, standsAt, Filled, Stands, asThread};
+ghost use Rattle.audit.specs.Tests.{isClean, fits as fitting, home as homeOf, runsAlone, unheard as quietTo, placeTest, deskTest};
+ghost use Rattle.audit.specs.Loops.{Entered, Twice, Every};
+ghost use Rattle.audit.specs.Whole.{Members, Strangers};
+use lines::Links;
+use lines::NONE;
+use lines::PLACES;
+use rules::AWAITING;
+use rules::EMPTY;
+use rules::LAST_NUMBER;
+use rules::NOBODY;
+use rules::Place;
+use rules::READY;
+use rules::RECEIVING;
+use rules::RUNNING;
+use rules::SENDING;
+use rules::WAITING;
+use table::Blocks;
+use table::Desk;
+use table::Thread;
+use table::Words;
+
+// The number of places, as a place is.
+const LIMIT: u8 = PLACES as u8;
+
+// The home of one whose partner is not live: no line, and not NONE.
+const ASTRAY: u8 = 254;
+
+// A byte as an index.
+fn wide(x: u8) -> usize
+    ensures { λ r. ⌜ (r ≡ x) × (r < 256) ⌝ }
+{
+    x as usize
+}
+
+// ---- a thread alone
+
+// Partner and word by standing: the table of document 01.
+fn as_table(standing: u8, partner: u8, word: u32) -> bool
+    ensures { λ r. ⌜ r ≡ asTable standing partner word ⌝ }
+{
+    let resting = (partner == NOBODY) & (word == 0);
+    if standing == RUNNING {
+        return resting;
+    }
+    if standing == READY {
+        return resting;
+    }
+    if standing == SENDING {
+        return partner <= LAST_NUMBER;
+    }
+    if standing == AWAITING {
+        return partner <= LAST_NUMBER;
+    }
+    if standing == RECEIVING {
+        return ((partner <= LAST_NUMBER) | (partner == NOBODY)) & (word == 0);
+    }
+    if standing == WAITING {
+        return resting;
+    }
+    false
+}
+
+// Code 0 or 16 and who a number, or 0, 255, 0.
+fn is_answer(code: u8, who: u8, word: u32) -> bool
+    ensures { λ r. ⌜ r ≡ isAnswer code who word ⌝ }
+{
+    ((code == 0) | (code == 16)) & (who <= LAST_NUMBER)
+        | (code == 0) & ((who == NOBODY) & (word == 0))
+}
+
+// The clean value of an empty place.
+fn is_clean(t: Thread) -> bool
+    ensures { λ r. ⌜ r ≡ isClean (asThread t) ⌝ }
+{
+    let a = t.answer;
+    let empty = (a.code == 0) & ((a.who.0 == NOBODY) & (a.word == 0));
+    (t.number.0 == NOBODY) & ((t.partner.0 == NOBODY) & ((t.word == 0) & empty))
+}
+
+fn fits(t: Thread) -> bool
+    ensures { λ r. ⌜ r ≡ fitting (asThread t) ⌝ }
+{
+    if t.standing == EMPTY {
+        return is_clean(t);
+    }
+    let a = t.answer;
+    let answer = is_answer(a.code, a.who.0, a.word);
+    let table = as_table(t.standing, t.partner.0, t.word);
+    (t.number.0 <= LAST_NUMBER) & (table & ((t.partner.0 != t.number.0) & answer))
+}
+
+// ---- a thread and its partner
+
+// The line into which its standing puts a thread, or NONE.
+fn home(who: &[u8; 256], t: Thread) -> u8
+    ensures { λ r. ⌜ r ≡ homeOf (now (who .entry)) (asThread t) ⌝ }
+{
+    let standing = t.standing;
+    if standing == READY {
+        return 0;
+    }
+    if standing == WAITING {
+        return 1;
+    }
+    let r = who[wide(t.partner.0)];
+    if standing == SENDING {
+        return if r < LIMIT { 2 + r } else { ASTRAY };
+    }
+    if standing == AWAITING {
+        return if r < LIMIT { NONE } else { ASTRAY };
+    }
+    NONE
+}
+
+// The owner of the inbox in which t would stand, at r, does not wait to hear it.
+fn unheard(b: &Blocks, r: u8, t: Thread) -> bool
+    ensures { λ r′. ⌜ ((w : List ℕ) → r′ ≡ quietTo (thread (modelOf 0 0 (now (b .entry)) w []) r) (asThread t)) ⌝ }
+{
+    if t.standing != SENDING {
+        return true;
+    }
+    if r >= LIMIT {
+        return true;
+    }
+    let n = t.number;
+    !table::listens(b, Place(r), n)
+}
+
+// Whoever stands as running is the one that runs.
+fn runs_alone(running: u8, p: u8, t: Thread) -> bool
+    ensures { λ r. ⌜ r ≡ runsAlone running p (asThread t) ⌝ }
+{
+    if t.standing == RUNNING {
+        return running == p;
+    }
+    true
+}
+
+// The place p, with all that it has to do with others.
+fn place(b: &Blocks, w: &Words, at: &[u8; PLACES], who: &[u8; 256], running: u8, p: u8) -> bool
+    requires { ⌜ p < places ⌝ }
+    ensures { λ r. ⌜ r ≡ placeTest (modelOf 0 running (now (b .entry)) (now (w .entry)) []) (now (at .entry)) (now (who .entry)) p ⌝ }
+{
+    let t = table::read(b, w, Place(p));
+    let r = who[wide(t.partner.0)];
+    let seated = at[p as usize] == home(who, t);
+    fits(t) & (runs_alone(running, p, t) & (seated & unheard(b, r, t)))
+}
+
+// ---- the index of numbers
+
+// The thread at p, if one stands there, enters the index. False where its number is taken.
+fn enter(b: &Blocks, who: &mut [u8; 256], p: u8) -> bool
+    requires { ⌜ (p < places) × Entered (now b) (now who) p ⌝ }
+    ensures { λ r. ⌜ Tells r (Entered (now (b .entry)) (now (who .exit)) (p + 1)) (Twice (now (b .entry))) ⌝ }
+{
+    let at = p as usize;
+    if b[table::STANDING + at] == EMPTY {
+        return true;
+    }
+    let n = wide(b[table::NUMBER + at]);
+    if who[n] != NONE {
+        return false;
+    }
+    who[n] = p;
+    true
+}
+
+// Every thread enters the index.
+fn index(b: &Blocks, who: &mut [u8; 256]) -> bool
+    requires { ⌜ Entered (now b) (now who) 0 ⌝ }
+    ensures { λ r. ⌜ Tells r (Entered (now (b .entry)) (now (who .exit)) places) (Twice (now (b .entry))) ⌝ }
+{
+    let mut p: u8 = 0;
+    while p < LIMIT {
+        if !enter(b, who, p) {
+            return false;
+        }
+        p += 1;
+    }
+    true
+}
+
+// ---- all places
+
+// Every place passes.
+fn every(b: &Blocks, w: &Words, at: &[u8; PLACES], who: &[u8; 256], running: u8) -> bool
+    ensures { λ r. ⌜ Every r (placeTest (modelOf 0 running (now (b .entry)) (now (w .entry)) []) (now (at .entry)) (now (who .entry))) ⌝ }
+{
+    let mut p: u8 = 0;
+    while p < LIMIT {
+        if !place(b, w, at, who, running, p) {
+            return false;
+        }
+        p += 1;
+    }
+    true
+}
+
+// The word of the places where a thread stands.
+pub fn filling(b: &Blocks) -> u32
+    ensures { λ r. ⌜ Filled r (now (b .entry)) ⌝ }
+{
+    let mut x: u32 = 0;
+    let mut p: u8 = 0;
+    while p < LIMIT {
+        if b[table::STANDING + p as usize] != EMPTY {
+            x = filled::with(x, p);
+        }
+        p += 1;
+    }
+    x
+}
+
+// The last number given, and who runs.
+fn seated(b: &Blocks, l: &Links, d: Desk) -> bool
+    requires { ⌜ Tidy places lineCount (now l) ⌝ }
+    ensures { λ r. ⌜ ((w : List ℕ) → r ≡ deskTest (shown d (now (b .entry)) w (now (l .entry)))) ⌝ }
+{
+    if d.last.0 > LAST_NUMBER {
+        return false;
+    }
+    let running = d.running.0;
+    if running == NONE {
+        return lines::first(l, 0) == NONE;
+    }
+    if running >= LIMIT {
+        return false;
+    }
+    b[table::STANDING + running as usize] == RUNNING
+}
+
+// ---- the whole
+
+// How many bytes a slice has.
+fn bytes(s: &[u8]) -> usize
+    ensures { λ r. ⌜ r ≡ length (now (s .entry)) ⌝ }
+{
+    s.len()
+}
+
+// How many words a slice has; each of them has 32 bits.
+fn words(s: &[u32]) -> usize
+    ensures { λ r. ⌜ (r ≡ length (now (s .entry))) × ((i : ℕ) → getD (now (s .entry)) i 0 < 2 ^ 32) ⌝ }
+{
+    let n = s.len();
+    wide(0);
+    n
+}
+
+// Every place, each with all that it has to do with others.
+fn members(b: &Blocks, w: &Words, at: &[u8; PLACES], running: u8) -> bool
+    ensures { λ r. ⌜ Tells r (Members running (now (b .entry)) (now (w .entry)) (now (at .entry))) (Strangers running (now (b .entry)) (now (w .entry)) (now (at .entry))) ⌝ }
+{
+    let mut who = [NONE; 256];
+    if !index(b, &mut who) {
+        return false;
+    }
+    every(b, w, at, &who, running)
+}
+
+// Do the desk and the arrays stand for a consistent nucleus? Any may come.
+pub fn consistent(b: &Blocks, w: &Words, l: &Links, d: Desk) -> bool
+    ensures { λ r. ⌜ Tells r (Stands d (now (b .entry)) (now (w .entry)) (now (l .entry))) (Stands d (now (b .entry)) (now (w .entry)) (now (l .entry)) → ⊥) ⌝ }
+{
+    let seats = lines::survey(l);
+    if !seats.tidy {
+        return false;
+    }
+    let at = seats.at;
+    if !members(b, w, &at, d.running.0) {
+        return false;
+    }
+    if !seated(b, l, d) {
+        return false;
+    }
+    // The sizes are those of the types; a proof does not know them of what is lent, and learns them here.
+    (filling(b) == d.filled) & ((bytes(b) == table::BYTES) & (words(w) == table::WORDS))
+}

@@ -1,0 +1,5 @@
+pub mod Filled
+pub mod Words
+pub mod Bits
+pub mod Lowest
+pub mod Upto

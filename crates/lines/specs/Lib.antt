@@ -1,0 +1,11 @@
+pub mod Lines
+pub mod Steps
+pub mod Walks
+pub mod Arrays
+pub mod Join
+pub mod Cut
+pub mod Seek
+pub mod Test
+pub mod Layout
+pub mod Along
+pub mod Callers

@@ -1,0 +1,93 @@
+-- Tables, a value for each number below n, and tallies, of how many of them a test holds. Assumes nothing.
+use mathlib.Core.Path.{_≡_, refl, sym, ap, ap₂, _∙_}
+use mathlib.Core.List.{List, _∷_}
+use mathlib.Core.Bool.{Bool, true, false}
+use Prim.Native.Nat.{ℕ, zero, suc, _+_, _≤_, _<_}
+use native.Mathlib.Omega.{arith}
+use borrow.Author.Tests.{eqb-true, eqb-false}
+use lib.Dec.{eqb}
+use lib.ListN.{length, getD, set, length-set}
+use lib.Seq.{getD-set-same, getD-set-other, ext-getD}
+use Rattle.lists.specs.Lists.{bit, tab, tally}
+use Rattle.lists.specs.Laws.{by-test}
+
+-- ---- tables
+pub length-tab {ℓ} : {A : Type ℓ} (n : ℕ) (f : ℕ → A) → length (tab n f) ≡ n
+unfolding tab
+length-tab zero f = refl
+length-tab (suc n) f = ap (λ (k : ℕ). suc k) (length-tab n (λ k. f (suc k)))
+
+pub getD-tab {ℓ} : {A : Type ℓ} (n : ℕ) (f : ℕ → A) (i : ℕ) (d : A) → i < n → getD (tab n f) i d ≡ f i
+unfolding tab
+getD-tab zero f i d h = absurd (omega arith)
+getD-tab (suc n) f zero d h = refl
+getD-tab (suc n) f (suc i) d h = getD-tab n (λ k. f (suc k)) i d (omega arith)
+
+-- a table is what it holds
+pub tab-ext : {A : Type 0} (n : ℕ) (f g : ℕ → A) → ((i : ℕ) → i < n → f i ≡ g i) → tab n f ≡ tab n g
+unfolding tab
+tab-ext zero f g e = refl
+tab-ext (suc n) f g e = ap₂ (λ (x : _) (xs : List _). x ∷ xs) (e 0 (omega arith)) (tab-ext n (λ k. f (suc k)) (λ k. g (suc k)) (λ i h. e (suc i) (omega arith)))
+
+pub tab-same : {A : Type 0} (d : A) (n : ℕ) (f g : ℕ → A) → tab n f ≡ tab n g → (i : ℕ) → i < n → f i ≡ g i
+tab-same d n f g e i h = sym (getD-tab n f i d h) ∙ ap (λ (xs : List _). getD xs i d) e ∙ getD-tab n g i d h
+
+-- a table of which one entry is another
+pub tab-set : {A : Type 0} (d : A) (n : ℕ) (f g : ℕ → A) (p : ℕ) (t : A) → p < n → g p ≡ t → ((r : ℕ) → r < n → (r ≡ p → ⊥) → g r ≡ f r) → tab n g ≡ set (tab n f) p t
+tab-set d n f g p t b e o =
+    let v = length-tab n f in
+    let w = length-tab n g in
+    ext-getD d (tab n g) (set (tab n f) p t) (w ∙ sym (length-set (tab n f) p t ∙ v))
+    (λ i h.
+    let hi : i < n = omega arith in
+    getD-tab n g i d hi ∙ by-test (eqb i p)
+    (λ y. let z : i ≡ p = eqb-true i p y in rw z (e ∙ sym (getD-set-same (tab n f) p t d (omega arith))))
+    (λ y. let z = eqb-false i p y in o i hi z ∙ sym (getD-set-other (tab n f) p i t d z ∙ getD-tab n f i d hi)))
+
+-- ---- tallies
+pub bit-low : (b : Bool) → bit b ≤ 1
+bit-low true = omega arith
+bit-low false = omega arith
+
+pub tally-ext : (n : ℕ) (f g : ℕ → Bool) → ((i : ℕ) → i < n → f i ≡ g i) → tally n f ≡ tally n g
+unfolding tally
+tally-ext zero f g e = refl
+tally-ext (suc n) f g e = ap₂ (λ (a b : ℕ). a + b) (ap bit (e 0 (omega arith))) (tally-ext n (λ k. f (suc k)) (λ k. g (suc k)) (λ i h. e (suc i) (omega arith)))
+
+pub tally-low : (n : ℕ) (f : ℕ → Bool) → tally n f ≤ n
+unfolding tally
+tally-low zero f = omega arith
+tally-low (suc n) f = let i = tally-low n (λ k. f (suc k)) in let b = bit-low (f zero) in omega arith
+
+-- one more, for a loop that goes up
+pub tally-last : (n : ℕ) (f : ℕ → Bool) → tally (suc n) f ≡ tally n f + bit (f n)
+unfolding tally
+tally-last zero f = omega arith
+tally-last (suc n) f = let i = tally-last n (λ k. f (suc k)) in omega arith
+
+-- one of them changes its answer
+pub tally-set : (n : ℕ) (f g : ℕ → Bool) (p : ℕ) → p < n → ((r : ℕ) → r < n → (r ≡ p → ⊥) → g r ≡ f r) → tally n g + bit (f p) ≡ tally n f + bit (g p)
+unfolding tally
+tally-set zero f g p h o = absurd (omega arith)
+tally-set (suc n) f g zero h o =
+    let e : tally n (λ k. g (suc k)) ≡ tally n (λ k. f (suc k)) = tally-ext n (λ k. g (suc k)) (λ k. f (suc k)) (λ i b. o (suc i) (omega arith) (omega arith)) in
+    omega arith
+tally-set (suc n) f g (suc p) h o =
+    let i = tally-set n (λ k. f (suc k)) (λ k. g (suc k)) p (omega arith) (λ r b m. o (suc r) (omega arith) (omega arith)) in
+    let e : bit (g zero) ≡ bit (f zero) = ap bit (o zero (omega arith) (omega arith)) in
+    omega arith
+
+-- all of them, or none
+pub tally-all : (n : ℕ) (f : ℕ → Bool) → tally n f ≡ n → (p : ℕ) → p < n → f p ≡ true
+unfolding tally
+tally-all zero f e p h = absurd (omega arith)
+tally-all (suc n) f e zero h =
+    let i = tally-low n (λ k. f (suc k)) in
+    by-test (f zero) (λ t. t) (λ t. let b = ap bit t in absurd (omega arith))
+tally-all (suc n) f e (suc p) h = let b = bit-low (f zero) in let i = tally-low n (λ k. f (suc k)) in tally-all n (λ k. f (suc k)) (omega arith) p (omega arith)
+
+pub tally-none : (n : ℕ) (f : ℕ → Bool) → tally n f ≡ 0 → (p : ℕ) → p < n → f p ≡ false
+unfolding tally
+tally-none zero f e p h = absurd (omega arith)
+tally-none (suc n) f e zero h = by-test (f zero) (λ t. let b = ap bit t in absurd (omega arith)) (λ t. t)
+tally-none (suc n) f e (suc p) h = tally-none n (λ k. f (suc k)) (omega arith) p (omega arith)

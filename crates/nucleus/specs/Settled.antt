@@ -1,0 +1,72 @@
+-- The model of a consistent state settles every byte of it.
+use mathlib.Core.Path.{_≡_, refl, sym, ap, ap₂, subst, _∙_}
+use mathlib.Core.List.{List, [], _∷_}
+use mathlib.Core.Bool.{not}
+use Prim.Native.Nat.{ℕ, zero, suc}
+use lib.Dec.{eqb}
+use lib.ListN.{replicate}
+use Rattle.lists.specs.Lists.{none, tab}
+use Rattle.lists.specs.Tables.{tab-ext}
+use Rattle.lines.specs.Lines.{lineOf, Clear}
+use Rattle.filled.specs.Filled.{wordOf}
+use Rattle.filled.specs.Words.{word-none}
+use Rattle.rules.specs.Model.{places, lineCount, lastNumber, Empty, Thread, vacant, Model}
+use Rattle.rules.specs.Rules.{fresh}
+use Rattle.rules.specs.Consistent.{Consistent}
+use Rattle.order.specs.Keeps.{fresh-consistent}
+use Rattle.table.specs.Cells.{threadOf, modelOf, standsAt}
+use Rattle.table.specs.Rows.{same-blocks, same-words, same-lines}
+use Rattle.table.specs.Clean.{Emptied}
+use Rattle.nucleus.specs.View.{view, Consists, Shows, Looked, held, refused}
+use Rattle.nucleus.specs.declared.State.{State}
+
+-- two consistent states that stand for one model are one state
+pub settled : (s t : State) → Consists s → Consists t → view s ≡ view t → s ≡ t
+settled s t a b e =
+    let eb = same-blocks (a .whole) (b .whole) e in
+    let ew = same-words (a .whole) (b .whole) e in
+    let el = same-lines (a .whole) (b .whole) e in
+    let ef : s .filled ≡ t .filled = a .filled ∙ ap (λ (x : List ℕ). wordOf places (standsAt x)) eb ∙ sym (b .filled) in
+    let ey : s .last .0 ≡ t .last .0 = ap (λ (m : Model). m .last) e in
+    let ex : s .running .0 ≡ t .running .0 = ap (λ (m : Model). m .running) e in
+    λ i. record { filled = ef i; last = record { 0 = ey i }; running = record { 0 = ex i }; blocks = eb i; words = ew i; lines = el i }
+
+-- and so is what shows a model
+pub shows-one : {s t : State} {m : Model} → Shows s m → Shows t m → s ≡ t
+shows-one {s} {t} a b = settled s t (a .consists) (b .consists) (a .seen ∙ sym (b .seen))
+
+-- so there is one answer to whoever looks
+pub looked-one : {A : Type 0} {s : State} {r t a b : A} → Looked s (r ≡ a) (r ≡ b) → Looked s (t ≡ a) (t ≡ b) → r ≡ t
+looked-one (held k e) (held l f) = e ∙ sym f
+looked-one (held k e) (refused n f) = absurd (n k)
+looked-one (refused n e) (held l f) = absurd (n l)
+looked-one (refused n e) (refused m f) = e ∙ sym f
+
+-- ---- fresh
+
+tab-all : {A : Type 0} (n : ℕ) (a : A) → tab n (λ _. a) ≡ replicate n a
+unfolding tab
+tab-all zero a = refl
+tab-all {A = A} (suc n) a = ap (λ (l : List A). a ∷ l) (tab-all n a)
+
+abbrev as-model : List Thread → List (List ℕ) → Model
+as-model t q = record { last = lastNumber; running = none; threads = t; lines = q }
+
+pub fresh-shows : {b w l : List ℕ} → Emptied b w places → Clear places lineCount l
+    → Shows (record { filled = 0; last = record { 0 = lastNumber }; running = record { 0 = none }; blocks = b; words = w; lines = l }) fresh
+fresh-shows {b} {w} {l} k c = record {
+  consists = record {
+    whole = record { blocks = k .sized .blocks; words = k .sized .words; lines = c .tidy };
+    filled = sym (word-none places (standsAt b) (λ p h. ap (λ (t : Thread). not (eqb (t .standing) Empty)) (k .clean p h)));
+    consistent = subst Consistent (sym seen) fresh-consistent;
+  };
+  seen = seen;
+}
+  where
+    no-places : List ℕ
+    no-places = []
+
+    seen : modelOf lastNumber none b w l ≡ fresh
+    seen =
+        ap₂ as-model (tab-ext places (threadOf b w) (λ _. vacant) (k .clean) ∙ tab-all places vacant)
+        (tab-ext lineCount (lineOf places l) (λ _. no-places) (c .empty) ∙ tab-all lineCount no-places)

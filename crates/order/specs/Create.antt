@@ -1,0 +1,60 @@
+-- Event 1, create: the lowest empty place takes a thread with a number that nobody has.
+use Prim.Native.Nat.{ℕ, suc, _≤_, _<_}
+use mathlib.Core.Path.{_≡_, refl, sym, ap, _∙_}
+use mathlib.Core.Logic.{_≢_}
+use native.Mathlib.Decide.{ℕ-discrete}
+use native.Mathlib.Omega.{arith}
+use borrow.Author.Tests.{eqb-true, not-false}
+use Rattle.lists.specs.Lists.{none}
+use Rattle.rules.specs.Values.{nobody}
+use Rattle.rules.specs.Model.{places, lastNumber, Empty, Thread, Model, ready, thread}
+use Rattle.rules.specs.Rules.{placeOf, inUse, nextNumber, newcomer, emptyPlace, createAt, create}
+use Rattle.order.specs.Sound.{Sound}
+use Rattle.order.specs.Belongs.{in-none, in-ready}
+use Rattle.order.specs.Places.{unused, in-use, empty, empty-place}
+use Rattle.order.specs.Lines.{joins}
+use Rattle.order.specs.Moves.{aside}
+use Rattle.order.specs.Fill.{Swap, changed}
+use Rattle.order.specs.Numbers.{free-low, some-free}
+
+-- the empty place p takes a thread with an unused number
+pub filled : (m : Model) → Sound m → (p n : ℕ) → p < places → thread m p .standing ≡ Empty → n ≤ lastNumber → placeOf m n ≡ none → Swap m p (newcomer n) (createAt p n m)
+filled m S p n h zero-p low free = changed m p (newcomer n) n (m .running) _ S (record {
+  place = h;
+  last = low;
+  fit = record {
+    clean = λ e. absurd (omega arith);
+    table = λ _. refl;
+    answer = refl;
+    number = λ _. low;
+    apart = λ _ e. omega arith;
+    words = (omega arith, omega arith);
+  };
+  turn = aside m S p (newcomer n) (omega arith) h (omega arith);
+  shift = joins m S p (newcomer n) ready (omega arith) (in-none m (thread m p) (omega arith) (omega arith) (omega arith)) (in-ready m (newcomer n) refl);
+  standing = omega arith;
+  own = λ s k _ e. elim (ℕ-discrete (thread m s .standing) Empty) [
+    | yes z ↦ let v = clean s z in omega arith
+    | no z ↦ unused m S n free s z (sym e)
+  ];
+  others = λ s k z. unused m S n free s z;
+  alien = λ s k i j.
+      let v = S .served s i j in
+      let w : thread m (v .0) .number ≤ lastNumber = S .fits (v .0) .number (v .1) in
+      let e = v .2 in
+      let c = clean p zero-p in
+      ((λ z. omega arith), λ z. unused m S n free (v .0) (v .1) (e ∙ z));
+})
+  where
+    clean : (s : ℕ) → thread m s .standing ≡ Empty → thread m s .number ≡ nobody
+    clean s z = ap (λ (t : Thread). t .number) (S .fits s .clean z)
+
+-- the number that create gives is a number, and is not in use
+pub given-free : (m : Model) → Sound m → (nextNumber m ≤ lastNumber) × (placeOf m (nextNumber m) ≡ none)
+given-free m S =
+    let some = some-free (inUse m) (λ p. thread m p .number) places (in-use m S) (suc lastNumber) (m .last) (S .last) (omega arith) (omega arith) in
+    let f = free-low (inUse m) (suc lastNumber) (m .last) (S .last) some in
+    (f .0, eqb-true _ _ (not-false _ (f .1)))
+
+pub creates : (m : Model) → Sound m → emptyPlace m ≢ none → Swap m (emptyPlace m) (newcomer (nextNumber m)) (create m)
+creates m S h = let f = given-free m S in filled m S (emptyPlace m) (nextNumber m) (empty-place m h) (empty m h) (f .0) (f .1)

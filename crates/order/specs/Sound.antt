@@ -1,0 +1,149 @@
+-- `Sound`: consistency in the shape that proofs use, without its clause `settled`, which fails in the middle of an event.
+-- `sound` and `whole` say that `Consistent` is `Sound` and that clause.
+use Prim.Native.Nat.{ℕ, _^_, _≤_, _<_}
+use mathlib.Core.Path.{_≡_, refl, ap, _∙_}
+use mathlib.Core.Logic.{_≢_}
+use mathlib.Core.List.{List, [], _∷_}
+use mathlib.Core.Bool.{true, false}
+use native.Mathlib.Decide.{ℕ-discrete, decLt}
+use native.Mathlib.Omega.{arith}
+use lib.ListN.{length, List·getD-eq-default}
+use lib.Dec.{eqb}
+use borrow.Author.Tests.{eqb-true, eq-eqb}
+use Rattle.lists.specs.Lists.{none, bit, count}
+use Rattle.lists.specs.Laws.{by-test, never, and-left, and-right}
+use Rattle.lists.specs.Counts.{count-self}
+use Rattle.rules.specs.Values.{nobody}
+use Rattle.rules.specs.Model.{places, lastNumber, lineCount, Empty, Running, Sending, Awaiting, Receiving, Thread, vacant, Model, ready, inbox, thread, line}
+use Rattle.rules.specs.Rules.{wants, hears}
+use Rattle.rules.specs.Consistent.{belongs, asTable, isAnswer, Consistent}
+
+-- a 32-bit word
+abbrev pub Short : ℕ → Type 0
+Short w = w < 2 ^ 32
+
+-- what a place must be, taken alone
+pub record Fit (t : Thread) : Type 0 where
+  pub clean : t .standing ≡ Empty → t ≡ vacant
+  pub table : t .standing ≢ Empty → asTable (t .standing) (t .partner) (t .word) ≡ true
+  pub answer : isAnswer (t .code) (t .who) (t .answer) ≡ true
+  pub number : t .standing ≢ Empty → t .number ≤ lastNumber
+  pub apart : t .standing ≢ Empty → t .partner ≢ t .number
+  pub words : Short (t .word) × Short (t .answer)
+
+-- a live thread has the number n
+abbrev pub Live : Model → ℕ → Type 0
+Live m n = (r : ℕ) × (thread m r .standing ≢ Empty) × (thread m r .number ≡ n)
+
+pub record Sound (m : Model) : Type 0 where
+  pub threads : length (m .threads) ≡ places
+  pub lines : length (m .lines) ≡ lineCount
+  pub last : m .last ≤ lastNumber
+  pub fits : (p : ℕ) → Fit (thread m p)
+  -- one of the two lives: an empty place has the number of nobody
+  pub differ : (p r : ℕ) → thread m p .standing ≢ Empty → thread m p .number ≡ thread m r .number → p ≡ r
+  pub alone : (p : ℕ) → thread m p .standing ≡ Running → m .running ≡ p
+  pub busy : m .running ≢ none → thread m (m .running) .standing ≡ Running
+  pub served : (p : ℕ) → Sending ≤ thread m p .standing → thread m p .standing ≤ Awaiting → Live m (thread m p .partner)
+  -- whoever stands in r's inbox is not one that r is waiting to hear
+  pub deaf : (r p : ℕ) → thread m p .standing ≡ Sending → thread m p .partner ≡ thread m r .number → hears (thread m r) (thread m p .number) ≡ false
+  pub stood : (p q : ℕ) → count p (line m q) ≡ bit (belongs m (thread m p) q)
+
+-- ---- what a Sound nucleus gives at once
+
+-- a live thread stands at one of the places
+pub small : (m : Model) → Sound m → (p : ℕ) → thread m p .standing ≢ Empty → p < places
+small m S p h = elim (decLt p places) [
+  | yes l ↦ l
+  | no n ↦ absurd (h (ap (λ (t : Thread). t .standing) (List·getD-eq-default (m .threads) vacant {n = p} (omega (arith, S .threads)))))
+]
+
+-- whoever stands in a line belongs there
+pub member : (m : Model) → Sound m → (p q : ℕ) → 1 ≤ count p (line m q) → belongs m (thread m p) q ≡ true
+member m S p q h = by-test (belongs m (thread m p) q) (λ e. e) (λ e. let z = S .stood p q ∙ ap bit e in absurd (omega arith))
+
+pub front-belongs : (m : Model) → Sound m → (p q : ℕ) (l : List ℕ) → line m q ≡ p ∷ l → belongs m (thread m p) q ≡ true
+front-belongs m S p q l e = member m S p q (rw (e, count-self p l) (omega arith))
+
+-- and in an inbox stand those who send to its owner
+module _ (m : Model) (S : Sound m) (r p : ℕ) (h : 1 ≤ count p (line m (inbox r))) where
+  pub sending : thread m p .standing ≡ Sending
+  sending = eqb-true _ _ (and-left _ (eqb (thread m p .partner) (thread m r .number)) (member m S p (inbox r) h))
+
+  pub sent : thread m p .partner ≡ thread m r .number
+  sent = eqb-true _ _ (and-right (eqb (thread m p .standing) Sending) _ (member m S p (inbox r) h))
+
+  pub unheard : hears (thread m r) (thread m p .number) ≡ false
+  unheard = S .deaf r p sending sent
+
+-- ---- the tie to the readable text
+
+module _ (m : Model) (C : Consistent m) where
+  number-vacant : (p : ℕ) → thread m p .standing ≡ Empty → thread m p .number ≡ nobody
+  number-vacant p e = ap (λ (t : Thread). t .number) (C .clean p e)
+
+  differing : (p r : ℕ) → thread m p .standing ≢ Empty → thread m p .number ≡ thread m r .number → p ≡ r
+  differing p r h e = elim (ℕ-discrete (thread m r .standing) Empty) [
+    | yes z ↦ let a = C .numbers p h in let b = number-vacant r z in absurd (omega arith)
+    | no k ↦ C .differ p r h k e
+  ]
+
+  -- p stands in r's inbox: r cannot be waiting to hear it
+  unheard-by : (r p : ℕ) → thread m p .standing ≡ Sending → thread m p .partner ≡ thread m r .number → hears (thread m r) (thread m p .number) ≡ true → ⊥
+  unheard-by r p e f h =
+      let five : thread m r .standing ≡ Receiving = eqb-true _ _ (and-left _ (wants (thread m r .partner) (thread m p .number)) h) in
+      let w : wants (thread m r .partner) (thread m p .number) ≡ true = and-right (eqb (thread m r .standing) Receiving) _ h in
+      let in-it : count p (line m (inbox r)) ≡ 1 = C .stood p (inbox r) ∙ rw (e, f, eq-eqb (thread m r .number) (thread m r .number) refl) in
+      by-test (eqb (thread m r .partner) nobody)
+      (λ t. let z : _≡_ {A = ℕ} 0 1 = rw (C .any r five (eqb-true _ _ t)) at in-it in omega arith)
+      (λ t. let z = C .from r p five (eqb-true _ _ (rw t at w)) in omega arith)
+
+  pub sound : Sound m
+  sound = record {
+    threads = C .threads;
+    lines = C .lines;
+    last = C .last;
+    fits = λ p. record { clean = C .clean p; table = C .table p; answer = C .answers p; number = C .numbers p; apart = C .apart p; words = C .words p };
+    differ = differing;
+    alone = C .one;
+    busy = C .busy;
+    served = C .served;
+    deaf = λ r p e f. by-test (hears (thread m r) (thread m p .number)) (λ h. absurd (unheard-by r p e f h)) (λ h. h);
+    stood = C .stood;
+  }
+
+module _ (m : Model) (S : Sound m) where
+  any-empty : (r : ℕ) → thread m r .standing ≡ Receiving → thread m r .partner ≡ nobody → (l : List ℕ) → line m (inbox r) ≡ l → l ≡ []
+  any-empty r five e [] z = refl
+  any-empty r five e (p ∷ l) z = never {b = true} refl (rw (five, e) at (unheard m S r p (rw (z, count-self p l) (omega arith))))
+
+  from-absent : (r p : ℕ) → thread m r .standing ≡ Receiving → thread m r .partner ≡ thread m p .number → count p (line m (inbox r)) ≡ 0
+  from-absent r p five e = elim (decLt 0 (count p (line m (inbox r)))) [
+    | no n ↦ omega arith
+    | yes h ↦
+        let u : wants (thread m r .partner) (thread m p .number) ≡ false = rw five at (unheard m S r p h) in
+        by-test (eqb (thread m r .partner) nobody)
+        (λ t. never {b = true} refl (rw t at u))
+        (λ t. never (eq-eqb _ _ e) (rw t at u))
+  ]
+
+  pub whole : (m .running ≡ none → line m ready ≡ []) → Consistent m
+  whole settled = record {
+    threads = S .threads;
+    lines = S .lines;
+    words = λ p. S .fits p .words;
+    differ = λ p r h _. S .differ p r h;
+    numbers = λ p. S .fits p .number;
+    last = S .last;
+    one = S .alone;
+    busy = S .busy;
+    settled = settled;
+    stood = S .stood;
+    table = λ p. S .fits p .table;
+    served = S .served;
+    apart = λ p. S .fits p .apart;
+    any = λ r five e. any-empty r five e (line m (inbox r)) refl;
+    from = from-absent;
+    answers = λ p. S .fits p .answer;
+    clean = λ p. S .fits p .clean;
+  }

@@ -1,0 +1,105 @@
+-- "Loads that were counted" (document 01): the starred cases that need no image and no log, as one table, and one fact that covers it.
+use Prim.Native.Nat.{ℕ}
+use mathlib.Core.Path.{_≡_, refl}
+use mathlib.Core.List.{List, [], _∷_, _++_, map}
+use Rattle.lists.specs.Lists.{tally}
+use Rattle.rules.specs.Values.{nobody}
+use Rattle.rules.specs.Model.{lastNumber, Running, Ready, Waiting, Receiving, Thread, vacant, Model, thread, allPlaces}
+use Rattle.rules.specs.Rules.{firstFree, fresh, gave, choice, after, Outcome, outcome}
+use Rattle.rules.specs.declared.Number.{Number}
+use Rattle.rules.specs.declared.Event.{Event}
+use Rattle.rules.specs.declared.Event.the-variants.{Create, Send, Receive, Reply, End, WaitClock, SliceEnd, Tick}
+use Rattle.rules.specs.declared.Choice.{Choice}
+use Rattle.rules.specs.declared.Choice.the-variants.{Run, Halt, Wait, Stuck}
+
+-- a number as the code has it
+abbrev pub no : ℕ → Number
+no n = record { 0 = n }
+
+-- what is seen once the events of a case have come: the last one's code and number, the choice, and the thread at a place looked at
+pub record Seen : Type 0 where
+  pub code : ℕ
+  pub number : ℕ
+  pub choice : Choice
+  pub thread : Thread
+
+pub record Case : Type 0 where
+  pub start : Model
+  pub events : List Event
+  pub place : ℕ
+  pub seen : Seen
+
+-- what the rules give, event by event
+abbrev pub played : Outcome → List Event → ℕ → Seen
+played o [] p = record { code = o .code; number = o .number; choice = o .choice; thread = thread (o .state) p }
+played o (e ∷ es) p = played (outcome e (o .state)) es p
+
+-- before any event
+abbrev pub begun : Model → Outcome
+begun m = record { state = m; code = 0; choice = choice m; number = nobody }
+
+abbrev pub found : Case → Seen
+found c = played (begun (c .start)) (c .events) (c .place)
+
+abbrev thread-as : ℕ → ℕ → ℕ → ℕ → ℕ → ℕ → ℕ → Thread
+thread-as n st pa w c k a = record { number = n; standing = st; partner = pa; word = w; code = c; who = k; answer = a }
+
+-- the thread n with the answer c, k, a: running ..
+abbrev runner : ℕ → ℕ → ℕ → ℕ → Thread
+runner n c k a = thread-as n Running nobody 0 c k a
+
+-- .. and ready
+abbrev queued : ℕ → ℕ → ℕ → ℕ → Thread
+queued n c k a = thread-as n Ready nobody 0 c k a
+
+abbrev case : Model → List Event → ℕ → ℕ → ℕ → Choice → Thread → Case
+case m es p c n x t = record { start = m; events = es; place = p; seen = record { code = c; number = n; choice = x; thread = t } }
+
+-- the histories that the cases share
+abbrev one : List Event
+one = Create ∷ []
+
+abbrev pair : List Event
+pair = Create ∷ Create ∷ []
+
+abbrev met : List Event
+met = Create ∷ Create ∷ Receive (no nobody) ∷ Send (no 0) 7 ∷ []
+
+abbrev dropped : List Event
+dropped = Create ∷ Create ∷ Send (no 1) 7 ∷ End (no 1) ∷ []
+
+pub cases : List Case
+cases =
+    -- Fresh: choice halt.
+    case fresh [] 0 0 nobody Halt vacant
+    -- Create twice: numbers 0, 1; 0 runs.
+    ∷ case fresh one 0 0 0 (Run (no 0)) (runner 0 0 nobody 0)
+    ∷ case fresh pair 1 0 1 (Run (no 0)) (queued 1 0 nobody 0)
+    -- Then 0 receives any: 1 runs.
+    ∷ case fresh (pair ++ (Receive (no nobody) ∷ [])) 1 0 nobody (Run (no 1)) (runner 1 0 nobody 0)
+    -- 1 sends 7 to 0: 0 runs with answer 0, 1, 7.
+    ∷ case fresh met 0 0 nobody (Run (no 0)) (runner 0 0 1 7)
+    -- 0 replies 9: 1 runs with 0, 0, 9; 0 is ready.
+    ∷ case fresh (met ++ (Reply (no 1) 9 ∷ [])) 1 0 nobody (Run (no 1)) (runner 1 0 0 9)
+    ∷ case fresh (met ++ (Reply (no 1) 9 ∷ [])) 0 0 nobody (Run (no 1)) (queued 0 0 1 7)
+    -- From the pair: 0 sends 7 to 1, then 1 is ended: 0 runs with 16, 1, 7.
+    ∷ case fresh dropped 0 0 nobody (Run (no 0)) (runner 0 16 1 7)
+    -- The next create gives number 2 in place 1.
+    ∷ case fresh (dropped ++ (Create ∷ [])) 1 0 2 (Run (no 0)) (queued 2 0 nobody 0)
+    -- Thread 0 alone sends to 254, 0, 5: codes 2, 3, 4.
+    ∷ case fresh (one ++ (Send (no 254) 7 ∷ [])) 0 2 nobody (Run (no 0)) (runner 0 0 nobody 0)
+    ∷ case fresh (one ++ (Send (no 0) 7 ∷ [])) 0 3 nobody (Run (no 0)) (runner 0 0 nobody 0)
+    ∷ case fresh (one ++ (Send (no 5) 7 ∷ [])) 0 4 nobody (Run (no 0)) (runner 0 0 nobody 0)
+    -- Last given 253, only 0 live: create gives 1.
+    ∷ case (gave lastNumber (after one fresh)) one 1 0 1 (Run (no 0)) (queued 1 0 nobody 0)
+    -- 0 alone waits for the clock: wait; tick: run 0.
+    ∷ case fresh (one ++ (WaitClock ∷ [])) 0 0 nobody Wait (thread-as 0 Waiting nobody 0 0 nobody 0)
+    ∷ case fresh (one ++ (WaitClock ∷ Tick ∷ [])) 0 0 nobody (Run (no 0)) (runner 0 0 nobody 0)
+    -- 0 alone receives any: stuck, and a tick leaves it so.
+    ∷ case fresh (one ++ (Receive (no nobody) ∷ [])) 0 0 nobody Stuck (thread-as 0 Receiving nobody 0 0 nobody 0)
+    ∷ case fresh (one ++ (Receive (no nobody) ∷ Tick ∷ [])) 0 0 nobody Stuck (thread-as 0 Receiving nobody 0 0 nobody 0)
+    ∷ []
+
+pub counted : map found cases ≡ map (λ c. c .seen) cases
+unfolding cases allPlaces firstFree tally
+counted = refl

@@ -1,0 +1,5 @@
+pub mod Values
+pub mod Model
+pub mod Rules
+pub mod Consistent
+pub mod Counted

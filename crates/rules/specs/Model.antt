@@ -1,0 +1,103 @@
+-- The nucleus as the rules see it (document 01, "The cab's threads"): threads by place, and a list of places for each line.
+use Prim.Native.Nat.{ℕ, suc}
+use mathlib.Core.List.{List, []}
+use mathlib.Core.Bool.{Bool, not}
+use lib.ListN.{getD}
+use lib.Dec.{eqb}
+use Rattle.lists.specs.Lists.{upFrom, tally}
+use Rattle.rules.specs.Values.{nobody}
+-- 32 places, 0 to 31 (doc 001, MAXTHREADS). Each is empty or holds one thread. And the lines, below: two, and an inbox for each place.
+pub use Rattle.lists.specs.Sizes.{places, lineCount}
+
+-- A thread number and a place are different kinds and may not be mixed: each has a type of its own in the code, and here a name of its own.
+abbrev pub Place : Type 0
+Place = ℕ
+
+abbrev pub Number : Type 0
+Number = ℕ
+
+-- a standing, an answer's code
+abbrev pub Code : Type 0
+Code = ℕ
+
+abbrev pub Word : Type 0
+Word = ℕ
+
+-- Thread numbers run 0 to 253. 255 means nobody, or anyone; 254 is never used.
+abbrev pub lastNumber : ℕ
+lastNumber = 253
+
+-- The standings: the table of document 01. Standing 0 is that of an empty place.
+abbrev pub Empty : ℕ
+Empty = 0
+
+abbrev pub Running : ℕ
+Running = 1
+
+abbrev pub Ready : ℕ
+Ready = 2
+
+-- sending, in the partner's inbox
+abbrev pub Sending : ℕ
+Sending = 3
+
+-- received, awaiting reply
+abbrev pub Awaiting : ℕ
+Awaiting = 4
+
+abbrev pub Receiving : ℕ
+Receiving = 5
+
+-- waiting for the clock
+abbrev pub Waiting : ℕ
+Waiting = 6
+
+-- A thread holds: its number; its standing; a partner (a number or 255); a 32-bit word; an inbox (a line, below);
+-- and the answer to its last finished call: code, who, word (here `answer`).
+pub record Thread : Type 0 where
+  pub number : Number
+  pub standing : Code
+  pub partner : Number
+  pub word : Word
+  pub code : Code
+  pub who : Number
+  pub answer : Word
+
+-- An empty place holds one fixed clean value.
+abbrev pub vacant : Thread
+vacant = record { number = nobody; standing = Empty; partner = nobody; word = 0; code = 0; who = nobody; answer = 0 }
+
+-- The last number given, the running place (or none), the threads by place, and the lines: lists of places, front first.
+pub record Model : Type 0 where
+  pub last : Number
+  pub running : Place
+  pub threads : List Thread
+  pub lines : List (List Place)
+
+-- The lines are the ready queue, the clock queue and the inbox of each place: every queue is one, and what is true of all is said once.
+abbrev pub ready : ℕ
+ready = 0
+
+abbrev pub clock : ℕ
+clock = 1
+
+abbrev pub inbox : Place → ℕ
+inbox p = suc (suc p)
+
+-- what stands at a place, and in a line; past the last there is nothing
+abbrev pub thread : Model → Place → Thread
+thread m p = getD (m .threads) p vacant
+
+abbrev pub line : Model → ℕ → List Place
+line m q = getD (m .lines) q []
+
+-- every place, by rising place. (No abbrev: it would be written out wherever it stands.)
+unfoldable pub allPlaces : List Place
+allPlaces = upFrom 0 places
+
+abbrev pub livesAt : Model → Place → Bool
+livesAt m p = not (eqb (thread m p .standing) Empty)
+
+-- The live count. (The set of filled places as one 32-bit word, of which it is the ones: `Filled` of crate `table`.)
+abbrev pub live : Model → ℕ
+live m = tally places (livesAt m)

@@ -1,0 +1,318 @@
+-- THE RULES (document 01, "The eight events" and "When the nucleus says no"), in the document's order and words.
+-- No proofs here: what is proved of the rules is in the crate `order`.
+use Prim.Native.Nat.{ℕ, zero, suc, _+_}
+use mathlib.Core.List.{List, [], _∷_, _++_}
+use mathlib.Core.Bool.{Bool, true, false, cond, not, _&&_, _||_}
+use lib.ListN.{set, replicate}
+use lib.Dec.{ltb, eqb}
+use Rattle.lists.specs.Lists.{none, without, firstOf}
+use Rattle.rules.specs.Values.{nobody}
+use Rattle.rules.specs.Model.{Place, Number, Code, Word, places, lastNumber, Running, Ready, Sending, Awaiting, Receiving, Waiting, Thread, vacant, Model, ready, clock, inbox, lineCount, thread, line, allPlaces, livesAt, live}
+use Rattle.rules.specs.declared.Event.{Event}
+use Rattle.rules.specs.declared.Event.the-variants.{Create, Send, Receive, Reply, End, WaitClock, SliceEnd, Tick}
+use Rattle.rules.specs.declared.Choice.{Choice}
+use Rattle.rules.specs.declared.Choice.the-variants.{Run, Halt, Wait, Stuck}
+
+-- ---- looking up
+
+-- the place where a live thread has the number n, or none
+abbrev pub placeOf : Model → Number → Place
+placeOf m n = firstOf (λ p. livesAt m p && eqb (thread m p .number) n) allPlaces
+
+-- nobody runs
+abbrev pub idle : Model → Bool
+idle m = eqb (m .running) none
+
+-- the number of the running thread, which is the caller
+abbrev pub mine : Model → Number
+mine m = thread m (m .running) .number
+
+-- ---- the verbs: what happens to one place, from which every event is made
+
+-- p runs
+abbrev pub runs : Place → Model → Model
+runs p m = record { last = m .last; running = p; threads = m .threads; lines = m .lines }
+
+-- the place p holds the thread t
+abbrev pub put : Place → Thread → Model → Model
+put p t m = record { last = m .last; running = m .running; threads = set (m .threads) p t; lines = m .lines }
+
+-- the line q is l
+abbrev pub relined : ℕ → List Place → Model → Model
+relined q l m = record { last = m .last; running = m .running; threads = m .threads; lines = set (m .lines) q l }
+
+-- p joins the back of line q
+abbrev pub join : ℕ → Place → Model → Model
+join q p m = relined q (line m q ++ (p ∷ [])) m
+
+-- p leaves line q
+abbrev pub leave : ℕ → Place → Model → Model
+leave q p m = relined q (without p (line m q)) m
+
+-- a thread with another standing, partner and word. Its answer stays: an answer changes only where a rule says so.
+abbrev pub stands : Code → Number → Word → Thread → Thread
+stands st pa w t = record { number = t .number; standing = st; partner = pa; word = w; code = t .code; who = t .who; answer = t .answer }
+
+-- a thread with another answer: code, who, word
+abbrev pub told : Code → Number → Word → Thread → Thread
+told c n w t = record { number = t .number; standing = t .standing; partner = t .partner; word = t .word; code = c; who = n; answer = w }
+
+-- p goes to the back of ready. Nothing ever enters ready except at the back.
+abbrev pub readied : Place → Model → Model
+readied p m = join ready p (put p (stands Ready nobody 0 (thread m p)) m)
+
+-- p's call is over: it has its answer, and goes to the back of ready
+abbrev pub woken : Place → Code → Number → Word → Model → Model
+woken p c n w m = join ready p (put p (stands Ready nobody 0 (told c n w (thread m p))) m)
+
+-- the caller no longer runs, and stands so
+abbrev pub stops : Code → Number → Word → Model → Model
+stops st pa w m = runs none (put (m .running) (stands st pa w (thread m (m .running))) m)
+
+-- ---- the number of a new thread
+
+-- The counter steps to its successor, and from 253 or above to 0.
+abbrev pub successor : Number → Number
+successor n = cond (ltb n lastNumber) (n + 1) 0
+
+abbrev pub inUse : Model → Number → Bool
+inUse m n = not (eqb (placeOf m n) none)
+
+-- of the k numbers after n, the first that is not used. (No abbrev: k is 254.)
+unfoldable pub firstFree : (Number → Bool) → ℕ → Number → Number
+firstFree used zero n = nobody
+firstFree used (suc k) n = cond (used (successor n)) (firstFree used k (successor n)) (successor n)
+
+-- A new thread gets the first number not in use after the last one given, modulo 254.
+abbrev pub nextNumber : Model → Number
+nextNumber m = firstFree (inUse m) (suc lastNumber) (m .last)
+
+-- Fresh: last given is 253, so the first is 0.
+abbrev pub fresh : Model
+fresh = record { last = lastNumber; running = none; threads = replicate places vacant; lines = replicate lineCount [] }
+
+-- ---- 1. Create. The thread joins the back of the ready queue. Returns its number (below, `given`).
+
+-- A new thread's answer is 0, 255, 0.
+abbrev pub newcomer : Number → Thread
+newcomer n = record { number = n; standing = Ready; partner = nobody; word = 0; code = 0; who = nobody; answer = 0 }
+
+-- A new thread takes the lowest empty place.
+abbrev pub emptyPlace : Model → Place
+emptyPlace m = firstOf (λ p. not (livesAt m p)) allPlaces
+
+-- the last number given is n
+abbrev pub gave : Number → Model → Model
+gave n m = record { last = n; running = m .running; threads = m .threads; lines = m .lines }
+
+abbrev pub createAt : Place → Number → Model → Model
+createAt p n m = join ready p (put p (newcomer n) (gave n m))
+
+abbrev pub create : Model → Model
+create m = createAt (emptyPlace m) (nextNumber m) m
+
+-- ---- 2. Send to D, word w (by the running thread S).
+
+-- a receive from n, or from any, takes what the number k sends
+abbrev pub wants : Number → Number → Bool
+wants n k = eqb n nobody || eqb n k
+
+-- the thread receives any or from k
+abbrev pub hears : Thread → Number → Bool
+hears t k = eqb (t .standing) Receiving && wants (t .partner) k
+
+-- If D receives any or from S: D's answer is 0, S, w, D goes to the back of ready, S awaits reply.
+-- Otherwise S joins the back of D's inbox.
+abbrev pub sendTo : Place → Number → Number → Word → Model → Model
+sendTo p s d w m = cond (hears (thread m p) s) (woken p 0 s w (stops Awaiting d w m)) (join (inbox p) (m .running) (stops Sending d w m))
+
+abbrev pub send : Number → Word → Model → Model
+send d w m = sendTo (placeOf m d) (mine m) d w m
+
+-- ---- 3. Receive from N or any. If the inbox has a match, the first is taken: the caller's answer is 0, sender, word; the sender now awaits reply; the
+-- caller keeps running. Otherwise the caller receives. A named thread need not be alive: the caller then waits.
+
+-- the sender at p leaves the inbox of the place c, and awaits the reply with partner and word as they were
+abbrev pub awaits : Place → Place → Model → Model
+awaits c p m = put p (stands Awaiting (thread m p .partner) (thread m p .word) (thread m p)) (leave (inbox c) p m)
+
+-- the caller, at c, takes the word of the sender at p
+abbrev pub takes : Place → Place → Model → Model
+takes c p m = let m₁ = awaits c p m in put c (told 0 (thread m p .number) (thread m p .word) (thread m₁ c)) m₁
+
+-- p is the first match, or none
+abbrev pub receiveFrom : Place → Number → Model → Model
+receiveFrom p n m = cond (eqb p none) (stops Receiving n 0 m) (takes (m .running) p m)
+
+abbrev pub receive : Number → Model → Model
+receive n m = receiveFrom (firstOf (λ p. wants n (thread m p .number)) (line m (inbox (m .running)))) n m
+
+-- ---- 4. Reply to T, word w. T's answer is 0, replier, w. The replier goes to the back of ready and T runs at once (doc 000, 4.4.1):
+-- a client that was answered does not wait behind those who were not.
+
+abbrev pub replyTo : Place → Number → Word → Model → Model
+replyTo p s w m =
+    let m₁ = runs none (readied (m .running) m) in
+    runs p (put p (stands Running nobody 0 (told 0 s w (thread m₁ p))) m₁)
+
+abbrev pub reply : Number → Word → Model → Model
+reply t w m = replyTo (placeOf m t) (mine m) w m
+
+-- ---- 5. End T. Nobody need run, and a thread may end itself.
+
+-- T leaves its queue; and if it ran, nobody does.
+abbrev pub outOfLine : Place → Model → Model
+outOfLine p m =
+    let t = thread m p in
+    cond (eqb (t .standing) Running) (runs none m)
+    (cond (eqb (t .standing) Ready) (leave ready p m)
+    (cond (eqb (t .standing) Sending) (leave (inbox (placeOf m (t .partner))) p m)
+    (cond (eqb (t .standing) Waiting) (leave clock p m) m)))
+
+-- Those in its inbox front to back ..
+abbrev pub handedBack : Number → Place → List Place → Model → Model
+handedBack n r [] m = m
+handedBack n r (p ∷ l) m = handedBack n r l (woken p 16 n (thread m p .word) (relined (inbox r) l m))
+
+-- does the thread at p await the reply of the number n
+abbrev pub awaitsAt : Place → Number → Model → Bool
+awaitsAt p n m = eqb (thread m p .standing) Awaiting && eqb (thread m p .partner) n
+
+-- .. then those awaiting its reply by rising place, get answer 16, T, and their own word back, and join ready.
+abbrev pub letGo : Number → List Place → Model → Model
+letGo n [] m = m
+letGo n (p ∷ l) m = letGo n l (cond (awaitsAt p n m) (woken p 16 n (thread m p .word) m) m)
+
+-- T's place is cleaned. Others receiving from T go on waiting.
+abbrev pub endAt : Place → Number → Model → Model
+endAt p n m =
+    let m₁ = outOfLine p m in
+    let m₂ = handedBack n p (line m₁ (inbox p)) m₁ in
+    put p vacant (letGo n allPlaces m₂)
+
+abbrev pub end : Number → Model → Model
+end n m = endAt (placeOf m n) n m
+
+-- ---- 6. Wait for the clock. The caller joins the back of the clock queue.
+
+abbrev pub waitClock : Model → Model
+waitClock m = join clock (m .running) (stops Waiting nobody 0 m)
+
+-- ---- 7. Slice end. The running thread goes to the back of ready and the front runs (below, `dispatched`). With none running, nothing
+-- changes; code 0.
+
+abbrev pub sliceEnd : Model → Model
+sliceEnd m = cond (idle m) m (runs none (readied (m .running) m))
+
+-- ---- 8. Tick. All clock waiters join ready in order, answer 0, 255, 0.
+
+abbrev pub rung : List Place → Model → Model
+rung [] m = m
+rung (p ∷ l) m = rung l (woken p 0 nobody 0 (relined clock l m))
+
+abbrev pub tick : Model → Model
+tick m = rung (line m clock) m
+
+-- ---- After any accepted event, if nobody runs and ready is not empty, its front runs.
+
+abbrev pub starts : List Place → Model → Model
+starts [] m = m
+starts (p ∷ l) m = runs p (relined ready l (put p (stands Running nobody 0 (thread m p)) m))
+
+abbrev pub dispatched : Model → Model
+dispatched m = cond (idle m) (starts (line m ready) m) m
+
+abbrev pub act : Event → Model → Model
+act Create m = create m
+act (Send d w) m = send (d .0) w m
+act (Receive n) m = receive (n .0) m
+act (Reply t w) m = reply (t .0) w m
+act (End t) m = end (t .0) m
+act WaitClock m = waitClock m
+act SliceEnd m = sliceEnd m
+act Tick m = tick m
+
+-- ---- Choice (doc 002): run N; else halt (no live threads); else wait (clock queue not empty); else stuck.
+
+abbrev pub isNil : List Place → Bool
+isNil [] = true
+isNil (p ∷ l) = false
+
+abbrev pub choice : Model → Choice
+choice m =
+    cond (not (idle m)) (Run (record { 0 = mine m }))
+    (cond (eqb (live m) 0) Halt
+    (cond (not (isNil (line m clock))) Wait Stuck))
+
+-- ---- When the nucleus says no: the first test that holds gives its code. Order: 14, 11, then 1, 2, 3, 4, 5 for an event. 14 is about states, which may
+-- stand for no model that is consistent (crate `nucleus`), and 11 about logs (crate `journal`).
+
+infixr 5 _gives_else_
+abbrev pub _gives_else_ : Bool → Code → Code → Code
+b gives c else d = cond b c d
+
+-- 1: events 2, 3, 4, 6 with nobody running (`idle`)
+-- 2: number above 253 (receive: 254 only, of what a byte can be: 255 is any)
+abbrev pub noNumber : Number → Bool
+noNumber n = ltb lastNumber n
+
+abbrev pub noSource : Number → Bool
+noSource n = noNumber n && not (eqb n nobody)
+
+-- 3: send, receive or reply names the caller
+abbrev pub ownNumber : Model → Number → Bool
+ownNumber m n = eqb n (mine m)
+
+-- 4: send, reply or end: number not live
+abbrev pub notLive : Model → Number → Bool
+notLive m n = not (inUse m n)
+
+-- 5: reply: T doesn't await the caller's reply
+abbrev pub notAwaiting : Model → Number → Bool
+notAwaiting m t = not (awaitsAt (placeOf m t) (mine m) m)
+
+-- 6: create with 32 live
+abbrev pub full : Model → Bool
+full m = eqb (live m) places
+
+abbrev pub refusal : Event → Model → Code
+refusal Create m = full m gives 6 else 0
+refusal (Send d w) m = idle m gives 1 else noNumber (d .0) gives 2 else ownNumber m (d .0) gives 3 else notLive m (d .0) gives 4 else 0
+refusal (Receive n) m = idle m gives 1 else noSource (n .0) gives 2 else ownNumber m (n .0) gives 3 else 0
+refusal (Reply t w) m =
+    idle m gives 1 else noNumber (t .0) gives 2 else ownNumber m (t .0) gives 3 else notLive m (t .0) gives 4 else notAwaiting m (t .0) gives 5 else 0
+refusal (End t) m = noNumber (t .0) gives 2 else notLive m (t .0) gives 4 else 0
+refusal WaitClock m = idle m gives 1 else 0
+refusal SliceEnd m = 0
+refusal Tick m = 0
+
+-- ---- Each event takes the state and hands the next state back, with a code and the choice. A refused one leaves the state as it is, and still gives
+-- the choice of the unchanged state.
+
+abbrev pub next : Event → Model → Model
+next e m = cond (eqb (refusal e m) 0) (dispatched (act e m)) m
+
+-- Create returns its number (255 if refused). Number is 255 for every event but create.
+abbrev pub given : Event → Model → Number
+given Create m = cond (full m) nobody (nextNumber m)
+given (Send d w) m = nobody
+given (Receive n) m = nobody
+given (Reply t w) m = nobody
+given (End t) m = nobody
+given WaitClock m = nobody
+given SliceEnd m = nobody
+given Tick m = nobody
+
+pub record Outcome : Type 0 where
+  pub state : Model
+  pub code : Code
+  pub choice : Choice
+  pub number : Number
+
+abbrev pub outcome : Event → Model → Outcome
+outcome e m = record { state = next e m; code = refusal e m; choice = choice (next e m); number = given e m }
+
+-- a history
+abbrev pub after : List Event → Model → Model
+after [] m = m
+after (e ∷ es) m = after es (next e m)

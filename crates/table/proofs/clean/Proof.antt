@@ -1,0 +1,20 @@
+-- `clean` meets its contract: three stores, one after the other.
+use borrow.Author.Needs.{needs}
+use Rattle.table.specs.Clean.{cleaned}
+use Rattle.table.proofs.clean.Statement.{statement}
+use Rattle.table.proofs.clean.Tie as tie
+
+name-requires : tie.Need-name-requires
+name-requires c κs = search needs
+
+stand-requires : tie.Need-stand-requires
+stand-requires c κs = search needs
+
+tell-requires : tie.Need-tell-requires
+tell-requires c κs = search needs
+
+returns : tie.Need-returns
+returns c = let f = c .before .before .before .before .before .before .before .before in cleaned (f .pre .0) (f .pre .1) (c .before .before .before .before .before .before .name .ensures) (c .before .before .before .stand .ensures) (c .tell .ensures)
+
+pub clean-spec : {M : Type 1} → statement M
+clean-spec = tie.close (tie.spec name-requires stand-requires tell-requires returns)

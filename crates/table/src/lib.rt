@@ -1,0 +1,189 @@
+// The thread table: what a place holds, in two lent arrays, and the little that an event keeps beside them. A field of all places stands in a row, so
+// that field k of place p is cell k * PLACES + p.
+ghost use mathlib.Core.Path.{_≡_};
+ghost use Prim.Native.Nat.{ℕ, _<_};
+ghost use mathlib.Core.List.{List, []};
+ghost use Rattle.rules.specs.Model.{places, vacant};
+ghost use Rattle.rules.specs.Rules.{hears, choice};
+ghost use Rattle.table.specs.Cells.{threadOf, shown, asThread};
+ghost use Rattle.table.specs.Choose.{Legible};
+ghost use Rattle.table.specs.Stores.{Stood, Told, Named, Wrote};
+ghost use Rattle.table.specs.Clean.{Sized, emptied, Emptied};
+use lines::Links;
+use rules::Choice;
+use rules::Number;
+use rules::Place;
+
+// A row for each byte of a thread ..
+pub const NUMBER: usize = 0;
+
+pub const STANDING: usize = lines::PLACES;
+
+pub const PARTNER: usize = 2 * lines::PLACES;
+
+pub const CODE: usize = 3 * lines::PLACES;
+
+pub const WHO: usize = 4 * lines::PLACES;
+
+pub const BYTES: usize = 5 * lines::PLACES;
+
+// .. and for each word.
+pub const WORD: usize = 0;
+
+pub const ANSWER: usize = lines::PLACES;
+
+pub const WORDS: usize = 2 * lines::PLACES;
+
+pub type Blocks = [u8; BYTES];
+
+pub type Words = [u32; WORDS];
+
+// The lines: ready, clock, and from INBOX_LINES on the inbox of each place.
+pub const READY_LINE: u8 = 0;
+
+pub const CLOCK_LINE: u8 = 1;
+
+pub const INBOX_LINES: u8 = 2;
+
+// The set of filled places, the last number given, and the running place.
+pub struct Desk {
+    pub filled: u32,
+    pub last: Number,
+    pub running: Place,
+}
+
+// The answer to a thread's last finished call.
+pub struct Answer {
+    pub code: u8,
+    pub who: Number,
+    pub word: u32,
+}
+
+// What a place holds.
+pub struct Thread {
+    pub number: Number,
+    pub standing: u8,
+    pub partner: Number,
+    pub word: u32,
+    pub answer: Answer,
+}
+
+// The clean value of an empty place.
+pub fn vacancy() -> Thread
+    ensures { λ r. ⌜ asThread r ≡ vacant ⌝ }
+{
+    Thread {
+        number: Number(rules::NOBODY),
+        standing: rules::EMPTY,
+        partner: Number(rules::NOBODY),
+        word: 0,
+        answer: Answer {
+            code: 0,
+            who: Number(rules::NOBODY),
+            word: 0,
+        },
+    }
+}
+
+// What the place p holds.
+pub fn read(b: &Blocks, w: &Words, p: Place) -> Thread
+    requires { ⌜ p .0 < places ⌝ }
+    ensures { λ r. ⌜ asThread r ≡ threadOf (now (b .entry)) (now (w .entry)) (p .0) ⌝ }
+{
+    let at = p.0 as usize;
+    Thread {
+        number: Number(b[NUMBER + at]),
+        standing: b[STANDING + at],
+        partner: Number(b[PARTNER + at]),
+        word: w[WORD + at],
+        answer: Answer {
+            code: b[CODE + at],
+            who: Number(b[WHO + at]),
+            word: w[ANSWER + at],
+        },
+    }
+}
+
+// Does the thread at p receive any or from k?
+pub fn listens(b: &Blocks, p: Place, k: Number) -> bool
+    requires { ⌜ p .0 < places ⌝ }
+    ensures { λ r. ⌜ r ≡ hears (threadOf (now (b .entry)) [] (p .0)) (k .0) ⌝ }
+{
+    let at = p.0 as usize;
+    if b[STANDING + at] != rules::RECEIVING {
+        return false;
+    }
+    let partner = b[PARTNER + at];
+    (partner == rules::NOBODY) | (partner == k.0)
+}
+
+// The thread at p stands so from now on.
+pub fn stand(b: &mut Blocks, w: &mut Words, p: Place, standing: u8, partner: Number, word: u32)
+    requires { ⌜ p .0 < places ⌝ }
+    ensures { λ r. ⌜ Stood (now (b .entry)) (now (w .entry)) (p .0) standing (partner .0) word (now (b .exit)) (now (w .exit)) ⌝ }
+{
+    let at = p.0 as usize;
+    b[STANDING + at] = standing;
+    b[PARTNER + at] = partner.0;
+    w[WORD + at] = word;
+}
+
+// The answer to the thread at p.
+pub fn tell(b: &mut Blocks, w: &mut Words, p: Place, code: u8, who: Number, word: u32)
+    requires { ⌜ p .0 < places ⌝ }
+    ensures { λ r. ⌜ Told (now (b .entry)) (now (w .entry)) (p .0) code (who .0) word (now (b .exit)) (now (w .exit)) ⌝ }
+{
+    let at = p.0 as usize;
+    b[CODE + at] = code;
+    b[WHO + at] = who.0;
+    w[ANSWER + at] = word;
+}
+
+// The number of the thread at p.
+pub fn name(b: &mut Blocks, p: Place, n: Number)
+    requires { ⌜ p .0 < places ⌝ }
+    ensures { λ r. ⌜ Named (now (b .entry)) (p .0) (n .0) (now (b .exit)) ⌝ }
+{
+    let at = p.0 as usize;
+    b[NUMBER + at] = n.0;
+}
+
+// The place p is cleaned.
+pub fn clean(b: &mut Blocks, w: &mut Words, p: Place)
+    requires { ⌜ Sized (now b) (now w) × (p .0 < places) ⌝ }
+    ensures { λ r. ⌜ Wrote (now (b .entry)) (now (w .entry)) (p .0) emptied (now (b .exit)) (now (w .exit)) ⌝ }
+{
+    name(b, p, Number(rules::NOBODY));
+    stand(b, w, p, rules::EMPTY, Number(rules::NOBODY), 0);
+    tell(b, w, p, 0, Number(rules::NOBODY), 0);
+}
+
+// Every place is cleaned.
+pub fn clear(b: &mut Blocks, w: &mut Words)
+    requires { ⌜ Sized (now b) (now w) ⌝ }
+    ensures { λ r. ⌜ Emptied (now (b .exit)) (now (w .exit)) places ⌝ }
+{
+    let mut p: u8 = 0;
+    while p < lines::PLACES as u8 {
+        clean(b, w, Place(p));
+        p += 1;
+    }
+}
+
+// Who runs next, or why nobody does.
+pub fn choose(b: &Blocks, l: &Links, d: Desk) -> Choice
+    requires { ⌜ Legible d (now b) (now l) ⌝ }
+    ensures { λ r. ⌜ ((w : List ℕ) → r ≡ choice (shown d (now (b .entry)) w (now (l .entry)))) ⌝ }
+{
+    let running = d.running.0;
+    if running != lines::NONE {
+        return Choice::Run(Number(b[NUMBER + running as usize]));
+    }
+    if filled::count(d.filled) == 0 {
+        return Choice::Halt;
+    }
+    if lines::first(l, CLOCK_LINE) == lines::NONE {
+        return Choice::Stuck;
+    }
+    Choice::Wait
+}
