@@ -6,3 +6,4 @@ pub mod Tables
 pub mod Search
 pub mod Tells
 pub mod Sizes
+pub mod Bytes

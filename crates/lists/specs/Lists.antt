@@ -63,3 +63,8 @@ tab (suc n) f = f zero ∷ tab n (λ k. f (suc k))
 unfoldable pub tally : ℕ → (ℕ → Bool) → ℕ
 tally zero f = 0
 tally (suc n) f = bit (f zero) + tally n (λ k. f (suc k))
+
+-- those of a list that the test holds of
+abbrev pub only : (ℕ → Bool) → List ℕ → List ℕ
+only f [] = []
+only f (x ∷ l) = cond (f x) (x ∷ only f l) (only f l)
