@@ -1,3 +1,4 @@
 pub mod View
 pub mod Settled
 pub mod Looks
+pub mod Answers

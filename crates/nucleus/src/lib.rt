@@ -27,6 +27,14 @@ pub struct State {
     pub lines: Links,
 }
 
+// What an event answers: the next state, with a code and the choice, and the number given to a new thread.
+pub struct Reply {
+    pub state: State,
+    pub code: u8,
+    pub choice: Choice,
+    pub number: Number,
+}
+
 impl State {
     // The cab as it is switched on for the first time.
     pub fn fresh() -> State

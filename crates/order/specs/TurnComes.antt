@@ -58,9 +58,9 @@ slices (e ∷ es) m = acting e m + slices es (next e m)
 abbrev pub Come : ℕ → Model → Type 0
 Come n m = (choice m ≡ Run (record { 0 = n })) ⊎ (notLive m n ≡ true)
 
--- it is so after the first i of the events, of which at most k + 1 are slice ends that act
+-- it is so once an event has come before which at most k slice ends acted: at the latest the (k + 1)th that acts
 abbrev pub Comes : ℕ → ℕ → List Event → Model → Type 0
-Comes n k es m = (i : ℕ) × (slices (take i es) m ≤ suc k) × Come n (after (take i es) m)
+Comes n k es m = (i : ℕ) × (slices (take i es) m ≤ k) × Come n (after (take (suc i) es) m)
 
 -- ---- one event
 
@@ -155,9 +155,6 @@ worth WaitClock m = inl refl
 worth SliceEnd m = by-test (idle m) (λ e. inl (rw e)) (λ e. inr (refl, rw e, rw e))
 worth Tick m = inl refl
 
-acting-low : (e : Event) (m : Model) → acting e m ≤ 1
-acting-low e m = ⊎-elim (λ v. omega arith) (λ v. let o = v .2 in omega arith) (worth e m)
-
 module _ (e : Event) (m : Model) (C : Consistent m) (f : Fits e) (p n k : ℕ) (Q : Queued m p n k) where
   acted : refusal e m ≡ 0 → Fate (dispatched (act e m)) p n k (acting e m)
   acted z = go (waits m (sound m C) p n k Q e A D) (worth e m)
@@ -202,5 +199,5 @@ turn-comes [] m C f p n k Q h = absurd (omega arith)
 turn-comes (e ∷ es) m C f p n k Q h = go (fate e m C (f .0) p n k Q) (turn-comes es (next e m) (keeps e m C (f .0)) (f .1) p n)
   where
     go : Fate (next e m) p n k (acting e m) → ((j : ℕ) → Queued (next e m) p n j → j < slices es (next e m) → Comes n j es (next e m)) → Comes n k (e ∷ es) m
-    go (now s) rest = (1, let o = acting-low e m in omega arith, s)
+    go (now s) rest = (0, omega arith, s)
     go (later j i R) rest = let w = rest j R (omega arith) in (suc (w .0), let b = w .1 in omega arith, w .2)
