@@ -1,12 +1,17 @@
 -- What an event answers, on any state whatever, and that there is one such answer.
 use mathlib.Core.Path.{_≡_, refl, sym, ap, _∙_}
+use mathlib.Core.List.{List}
 use Prim.Native.Nat.{ℕ}
 use Rattle.rules.specs.Values.{nobody}
-use Rattle.rules.specs.Rules.{Outcome, outcome}
+use Rattle.rules.specs.Rules.{Outcome, outcome, choice}
 use Rattle.rules.specs.declared.Event.{Event}
 use Rattle.rules.specs.declared.Choice.{Choice}
 use Rattle.rules.specs.declared.Choice.the-variants.{Halt}
-use Rattle.nucleus.specs.View.{view, Consists, Shows, Looked, held, refused}
+use Rattle.table.specs.Cells.{shown}
+use Rattle.table.specs.declared.Desk.{Desk}
+use Rattle.threads.specs.Events.{Ran}
+use Rattle.threads.specs.declared.Outcome.{Outcome as Ended}
+use Rattle.nucleus.specs.View.{view, deskOf, laid, Consists, Shows, Looked, held, refused}
 use Rattle.nucleus.specs.Settled.{shows-one}
 use Rattle.nucleus.specs.declared.State.{State}
 use Rattle.nucleus.specs.declared.Reply.{Reply}
@@ -25,6 +30,13 @@ inconsistent s = record { state = s; code = 14; choice = Halt; number = record {
 -- Order: 14, then 1, 2, 3, 4, 5 (and 6 for create)
 abbrev pub Answers : State → Event → Reply → Type 0
 Answers s e r = Looked s (Meets (outcome e (view s)) r) (r ≡ inconsistent s)
+
+-- what the cores have done is what the rules say
+pub answers : {s st : State} {d : Desk} {b w l : List ℕ} {o : Ended} (e : Event) (x : Choice) → Consists s → d ≡ deskOf s → Ran d (s .blocks) (s .words) (s .lines) e o b w l
+    → ((v : List ℕ) → x ≡ choice (shown (o .desk) b v l)) → st ≡ laid (o .desk) b w l → Answers s e (record { state = st; code = o .code; choice = x; number = o .number })
+answers {s} {w = w} {o = o} e x k z t f y =
+    let u : Ran (deskOf s) (s .blocks) (s .words) (s .lines) e o _ w _ = rw z at t in
+    rw y (held k (record { state = record { consists = u .stands; seen = u .seen }; code = u .code; choice = f w ∙ ap choice (u .seen); number = u .number }))
 
 meets-one : {o : Outcome} {r t : Reply} → Meets o r → Meets o t → r ≡ t
 meets-one a b =

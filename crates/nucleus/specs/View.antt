@@ -1,5 +1,7 @@
 -- The state, as the rules see it, and what the public operations promise of any state whatever.
 use mathlib.Core.Path.{_≡_}
+use mathlib.Core.List.{List}
+use Prim.Native.Nat.{ℕ}
 use Rattle.rules.specs.Model.{Model}
 use Rattle.table.specs.Cells.{shown, Stands}
 use Rattle.table.specs.declared.Desk.{Desk}
@@ -7,6 +9,9 @@ use Rattle.nucleus.specs.declared.State.{State}
 
 abbrev pub deskOf : State → Desk
 deskOf s = record { filled = s .filled; last = s .last; running = s .running }
+
+abbrev pub laid : Desk → List ℕ → List ℕ → List ℕ → State
+laid d b w l = record { filled = d .filled; last = d .last; running = d .running; blocks = b; words = w; lines = l }
 
 -- the model that a state stands for
 abbrev pub view : State → Model

@@ -7,9 +7,12 @@ ghost use Rattle.rules.specs.Rules.{fresh as freshModel, choice as chosen, empt
 ghost use Rattle.rules.specs.declared.Choice.{Choice};
 ghost use Rattle.rules.specs.declared.Choice.the-variants.{Halt};
 ghost use Rattle.table.specs.Cells.{asThread};
-ghost use Rattle.nucleus.specs.View.{view, deskOf, Consists, Shows, Looked};
+ghost use Rattle.nucleus.specs.View.{view, deskOf, laid, Consists, Shows, Looked};
+ghost use Rattle.rules.specs.declared.Event.the-variants.{Create, Send, Receive, Reply as ReplyTo, End, WaitClock, SliceEnd, Tick};
+ghost use Rattle.nucleus.specs.Answers.{Answers};
 use lines::Links;
 use rules::Choice;
+use rules::Event;
 use rules::Number;
 use rules::Place;
 use table::Answer;
@@ -17,6 +20,9 @@ use table::Blocks;
 use table::Desk;
 use table::Thread;
 use table::Words;
+
+// The code where the state given is not consistent.
+pub const INCONSISTENT: u8 = 14;
 
 pub struct State {
     pub filled: u32,
@@ -64,6 +70,22 @@ impl State {
             filled: self.filled,
             last: last,
             running: running,
+        }
+    }
+
+    // The state of a desk and the arrays.
+    pub fn lay(d: Desk, b: Blocks, w: Words, l: Links) -> State
+        ensures { λ r. ⌜ r ≡ laid d b w l ⌝ }
+    {
+        let last = d.last;
+        let running = d.running;
+        State {
+            filled: d.filled,
+            last: last,
+            running: running,
+            blocks: b,
+            words: w,
+            lines: l,
         }
     }
 
@@ -128,5 +150,90 @@ impl State {
         let b = self.blocks;
         let w = self.words;
         table::read(&b, &w, p)
+    }
+
+    // The event e happens to the state. Where the state is not consistent it is handed back as it is, with 14.
+    pub fn step(self, e: Event) -> Reply
+        ensures { λ r. ⌜ Answers self e r ⌝ }
+    {
+        if !self.consistent() {
+            return Reply {
+                state: self,
+                code: INCONSISTENT,
+                choice: Choice::Halt,
+                number: Number(rules::NOBODY),
+            };
+        }
+        let d = self.desk();
+        let mut b = self.blocks;
+        let mut w = self.words;
+        let mut l = self.lines;
+        let r = threads::run(&mut b, &mut w, &mut l, d, e);
+        let x = r.desk;
+        let n = r.number;
+        let choice = table::choose(&b, &l, x);
+        let s = State::lay(x, b, w, l);
+        Reply {
+            state: s,
+            code: r.code,
+            choice: choice,
+            number: n,
+        }
+    }
+
+    // 1
+    pub fn create(self) -> Reply
+        ensures { λ r. ⌜ Answers self Create r ⌝ }
+    {
+        self.step(Event::Create)
+    }
+
+    // 2
+    pub fn send(self, to: Number, word: u32) -> Reply
+        ensures { λ r. ⌜ Answers self (Send to word) r ⌝ }
+    {
+        self.step(Event::Send { to: to, word: word })
+    }
+
+    // 3
+    pub fn receive(self, from: Number) -> Reply
+        ensures { λ r. ⌜ Answers self (Receive from) r ⌝ }
+    {
+        self.step(Event::Receive { from: from })
+    }
+
+    // 4
+    pub fn reply(self, to: Number, word: u32) -> Reply
+        ensures { λ r. ⌜ Answers self (ReplyTo to word) r ⌝ }
+    {
+        self.step(Event::Reply { to: to, word: word })
+    }
+
+    // 5
+    pub fn end(self, thread: Number) -> Reply
+        ensures { λ r. ⌜ Answers self (End thread) r ⌝ }
+    {
+        self.step(Event::End { thread: thread })
+    }
+
+    // 6
+    pub fn wait_clock(self) -> Reply
+        ensures { λ r. ⌜ Answers self WaitClock r ⌝ }
+    {
+        self.step(Event::WaitClock)
+    }
+
+    // 7
+    pub fn slice_end(self) -> Reply
+        ensures { λ r. ⌜ Answers self SliceEnd r ⌝ }
+    {
+        self.step(Event::SliceEnd)
+    }
+
+    // 8
+    pub fn tick(self) -> Reply
+        ensures { λ r. ⌜ Answers self Tick r ⌝ }
+    {
+        self.step(Event::Tick)
     }
 }

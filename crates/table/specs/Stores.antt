@@ -1,14 +1,22 @@
--- What the stores of the table leave in the arrays, and what that makes of the threads: one is another, and all others are as they were.
+-- What the reads and stores of the table find and leave in the arrays, and what that makes of the threads: one is another, and all others are as they were.
 use mathlib.Core.Path.{_≡_, refl, ap, _∙_}
 use mathlib.Core.List.{List}
+use mathlib.Core.Bool.{Bool, _&&_}
 use Prim.Native.Nat.{ℕ, _*_, _<_}
 use native.Mathlib.Omega.{arith}
-use lib.ListN.{length, set, length-set}
+use lib.Dec.{eqb}
+use lib.ListN.{length, getD, set, length-set}
 use Rattle.rules.specs.Values.{nobody}
-use Rattle.rules.specs.Model.{places, Thread}
+use Rattle.rules.specs.Model.{places, Awaiting, Thread}
 use Rattle.rules.specs.Rules.{stands, told}
 use Rattle.table.specs.Cells.{cell, byteRows, wordRows, threadOf}
 use Rattle.table.specs.Rows.{withByte, withWord, byte-here, byte-there, word-here, word-there}
+
+-- ---- what the code reads
+
+-- does the thread at p await a reply of the number k
+abbrev pub awaitsOf : List ℕ → ℕ → ℕ → Bool
+awaitsOf b p k = eqb (getD b (cell 1 p) 0) Awaiting && eqb (getD b (cell 2 p) 0) k
 
 -- ---- what the code leaves
 

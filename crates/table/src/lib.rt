@@ -3,11 +3,12 @@
 ghost use mathlib.Core.Path.{_≡_};
 ghost use Prim.Native.Nat.{ℕ, _<_};
 ghost use mathlib.Core.List.{List, []};
+ghost use lib.ListN.{getD};
 ghost use Rattle.rules.specs.Model.{places, vacant};
 ghost use Rattle.rules.specs.Rules.{hears, choice};
-ghost use Rattle.table.specs.Cells.{threadOf, shown, asThread};
+ghost use Rattle.table.specs.Cells.{cell, threadOf, shown, asThread};
 ghost use Rattle.table.specs.Choose.{Legible};
-ghost use Rattle.table.specs.Stores.{Stood, Told, Named, Wrote};
+ghost use Rattle.table.specs.Stores.{Stood, Told, Named, Wrote, awaitsOf};
 ghost use Rattle.table.specs.Clean.{Sized, emptied, Emptied};
 use lines::Links;
 use rules::Choice;
@@ -115,6 +116,48 @@ pub fn listens(b: &Blocks, p: Place, k: Number) -> bool
     }
     let partner = b[PARTNER + at];
     (partner == rules::NOBODY) | (partner == k.0)
+}
+
+// Does the thread at p await a reply of the number k?
+pub fn awaits(b: &Blocks, p: Place, k: Number) -> bool
+    requires { ⌜ p .0 < places ⌝ }
+    ensures { λ r. ⌜ r ≡ awaitsOf (now (b .entry)) (p .0) (k .0) ⌝ }
+{
+    let at = p.0 as usize;
+    (b[STANDING + at] == rules::AWAITING) & (b[PARTNER + at] == k.0)
+}
+
+// The fields of the thread at p, one by one.
+pub fn number_of(b: &Blocks, p: Place) -> Number
+    requires { ⌜ p .0 < places ⌝ }
+    ensures { λ r. ⌜ r .0 ≡ getD (now (b .entry)) (cell 0 (p .0)) 0 ⌝ }
+{
+    let at = p.0 as usize;
+    Number(b[NUMBER + at])
+}
+
+pub fn standing_of(b: &Blocks, p: Place) -> u8
+    requires { ⌜ p .0 < places ⌝ }
+    ensures { λ r. ⌜ r ≡ getD (now (b .entry)) (cell 1 (p .0)) 0 ⌝ }
+{
+    let at = p.0 as usize;
+    b[STANDING + at]
+}
+
+pub fn partner_of(b: &Blocks, p: Place) -> Number
+    requires { ⌜ p .0 < places ⌝ }
+    ensures { λ r. ⌜ r .0 ≡ getD (now (b .entry)) (cell 2 (p .0)) 0 ⌝ }
+{
+    let at = p.0 as usize;
+    Number(b[PARTNER + at])
+}
+
+pub fn word_of(w: &Words, p: Place) -> u32
+    requires { ⌜ p .0 < places ⌝ }
+    ensures { λ r. ⌜ r ≡ getD (now (w .entry)) (cell 0 (p .0)) 0 ⌝ }
+{
+    let at = p.0 as usize;
+    w[WORD + at]
 }
 
 // The thread at p stands so from now on.

@@ -1,0 +1,71 @@
+// What the programs share: reading the file or standard input, and printing what an event answers. What is printed is not proved, but compared with stored
+// output.
+ghost use Prim.Native.Nat.{_≤_};
+ghost use lib.ListN.{length};
+use libc::STDIN_FILENO;
+use libc::STDOUT_FILENO;
+use rules::Choice;
+use rules::Number;
+
+pub fn text(b: &[u8]) {
+    io::write_all(STDOUT_FILENO, b);
+}
+
+pub fn number(n: u64) {
+    io::print_decimal(STDOUT_FILENO, n);
+}
+
+// Bytes, two hexadecimal digits each.
+pub fn hex(b: &[u8]) {
+    let mut i = 0;
+    while i < b.len() {
+        hex_byte(b[i]);
+        i += 1;
+    }
+}
+
+fn hex_byte(b: u8) {
+    io::print_hex(STDOUT_FILENO, b as u64, 2);
+}
+
+// `run N`, `halt`, `wait` or `stuck`.
+pub fn choice(c: Choice) {
+    match c {
+        Choice::Run(n) => {
+            text(b"run ");
+            number(n.0 as u64);
+        }
+        Choice::Halt => text(b"halt"),
+        Choice::Wait => text(b"wait"),
+        Choice::Stuck => text(b"stuck"),
+    }
+}
+
+// `CODE CHOICE NUMBER`, and the line's end.
+pub fn answer(code: u8, c: Choice, n: Number) {
+    number(code as u64);
+    text(b" ");
+    choice(c);
+    text(b" ");
+    number(n.0 as u64);
+    text(b"\n");
+}
+
+// The file that the first argument names, or standard input where there is none, as far as the buffer goes. How many bytes there were.
+pub fn input(buffer: &mut [u8]) -> usize
+    ensures { λ r. ⌜ r ≤ length (now (buffer .exit)) ⌝ }
+{
+    if os::arg_count() < 2 {
+        return io::read_full(STDIN_FILENO, buffer);
+    }
+    let mut name = [0u8; 1024];
+    let n = os::arg(1, &mut name);
+    let file = os::open_read(&name[..n]);
+    if file < 0 {
+        os::fail(&name[..n]);
+        return 0;
+    }
+    let got = io::read_full(file, buffer);
+    libc::close(file);
+    got
+}
