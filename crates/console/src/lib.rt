@@ -51,15 +51,19 @@ pub fn answer(code: u8, c: Choice, n: Number) {
     text(b"\n");
 }
 
-// The file that the first argument names, or standard input where there is none, as far as the buffer goes. How many bytes there were.
+// Standard input, as far as the buffer goes. How many bytes there were.
 pub fn input(buffer: &mut [u8]) -> usize
     ensures { λ r. ⌜ r ≤ length (now (buffer .exit)) ⌝ }
 {
-    if os::arg_count() < 2 {
-        return io::read_full(STDIN_FILENO, buffer);
-    }
+    io::read_full(STDIN_FILENO, buffer)
+}
+
+// The file that argument i names, as far as the buffer goes. How many bytes there were; none where it cannot be read, which is said.
+pub fn file(i: usize, buffer: &mut [u8]) -> usize
+    ensures { λ r. ⌜ r ≤ length (now (buffer .exit)) ⌝ }
+{
     let mut name = [0u8; 1024];
-    let n = os::arg(1, &mut name);
+    let n = os::arg(i, &mut name);
     let file = os::open_read(&name[..n]);
     if file < 0 {
         os::fail(&name[..n]);

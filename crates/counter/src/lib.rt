@@ -1,0 +1,39 @@
+// The counter of numbers (document 01, "The image and the log"): a struct of one field, lent and changed in place. The work is `successor`'s, the
+// plain form; what is lent is proved by hand, so it stays thin.
+ghost use mathlib.Core.Path.{_≡_};
+ghost use Rattle.rules.specs.Rules.{successor as successorOf};
+ghost use Rattle.counter.specs.Step.{Steps};
+use rules::Number;
+
+// The last number given.
+pub struct Counter {
+    pub last: Number,
+}
+
+// The counter steps to its successor, and from 253 or above to 0: 254 is no number, and 255 is nobody.
+pub fn successor(n: u8) -> u8
+    ensures { λ r. ⌜ r ≡ successorOf n ⌝ }
+{
+    if n < rules::LAST_NUMBER {
+        return n + 1;
+    }
+    0
+}
+
+// Steps the counter lent, and gives the number stepped to. The one before is in use, or was.
+pub fn next(c: &mut Counter) -> Number
+    ensures { λ r. ⌜ Steps (now (c .entry)) (now (c .exit)) r ⌝ }
+{
+    let n = successor(c.last.0);
+    c.last = Number(n);
+    Number(n)
+}
+
+// The number after the last one given, for callers that hold that themselves: a counter is made of it, lent to `next`, and read back.
+pub fn step(last: Number) -> Number
+    ensures { λ r. ⌜ r .0 ≡ successorOf (last .0) ⌝ }
+{
+    let mut c = Counter { last };
+    next(&mut c);
+    c.last
+}
