@@ -56,7 +56,7 @@ abbrev case : Model → List Event → ℕ → ℕ → ℕ → Choice → Thread
 case m es p c n x t = record { start = m; events = es; place = p; seen = record { code = c; number = n; choice = x; thread = t } }
 
 -- the histories that the cases share
-abbrev one : List Event
+abbrev pub one : List Event
 one = Create ∷ []
 
 abbrev pair : List Event
@@ -68,7 +68,7 @@ met = Create ∷ Create ∷ Receive (no nobody) ∷ Send (no 0) 7 ∷ []
 abbrev dropped : List Event
 dropped = Create ∷ Create ∷ Send (no 1) 7 ∷ End (no 1) ∷ []
 
-pub cases : List Case
+unfoldable pub cases : List Case
 cases =
     -- Fresh: choice halt.
     case fresh [] 0 0 nobody Halt vacant

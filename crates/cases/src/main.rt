@@ -1,0 +1,121 @@
+// Runs the cases of "Loads that were counted" and prints a line for each answer: its code, the choice, the number, and the thread looked at.
+use nucleus::Reply;
+use nucleus::State;
+use rules::Number;
+use rules::Place;
+
+const ANY: u8 = rules::NOBODY;
+
+fn main() {
+    fresh();
+    pair();
+    ended();
+    refused();
+    wrapped();
+    waits();
+    sticks();
+    fills();
+}
+
+// What an event answered, and the thread at p then.
+fn line(what: &[u8], r: Reply, p: u8) -> State {
+    console::text(what);
+    console::text(b": ");
+    let choice = r.choice;
+    let number = r.number;
+    console::answer(r.code, choice, number);
+    let s = r.state;
+    thread(s, p);
+    s
+}
+
+// The thread at p: its number, standing, and answer.
+fn thread(s: State, p: u8) {
+    let t = s.thread(Place(p));
+    let a = t.answer;
+    console::text(b"    place ");
+    console::number(p as u64);
+    console::text(b": thread ");
+    console::number(t.number.0 as u64);
+    console::text(b" stands ");
+    console::number(t.standing as u64);
+    console::text(b", answer ");
+    console::number(a.code as u64);
+    console::text(b" ");
+    console::number(a.who.0 as u64);
+    console::text(b" ");
+    console::number(a.word as u64);
+    console::text(b"\n");
+}
+
+fn fresh() {
+    console::text(b"fresh: ");
+    console::choice(State::fresh().choice());
+    console::text(b"\n");
+}
+
+// Create twice.
+fn two() -> State {
+    let s = line(b"create", State::fresh().create(), 0);
+    line(b"create again", s.create(), 1)
+}
+
+// The pair meets: 0 receives, 1 sends, 0 replies.
+fn pair() {
+    let s = two();
+    let s = line(b"0 receives any", s.receive(Number(ANY)), 1);
+    let s = line(b"1 sends 7 to 0", s.send(Number(0), 7), 0);
+    let s = line(b"0 replies 9", s.reply(Number(1), 9), 1);
+    thread(s, 0);
+}
+
+// A receiver ends: its sender has its own word back, and the number is not given again at once.
+fn ended() {
+    let s = two();
+    let s = line(b"0 sends 7 to 1", s.send(Number(1), 7), 0);
+    let s = line(b"1 is ended", s.end(Number(1)), 0);
+    line(b"the next create", s.create(), 1);
+}
+
+fn refused() {
+    let s = line(b"0 alone", State::fresh().create(), 0);
+    line(b"0 sends to 254", s.send(Number(254), 7), 0);
+    line(b"0 sends to 0", s.send(Number(0), 7), 0);
+    line(b"0 sends to 5", s.send(Number(5), 7), 0);
+}
+
+fn wrapped() {
+    let r = State::fresh().create();
+    let mut s = r.state;
+    let last = Number(rules::LAST_NUMBER);
+    s.last = last;
+    line(b"last given 253, only 0 live: create", s.create(), 1);
+}
+
+fn waits() {
+    let s = line(b"0 alone", State::fresh().create(), 0);
+    let s = line(b"0 waits for the clock", s.wait_clock(), 0);
+    line(b"tick", s.tick(), 0);
+}
+
+fn sticks() {
+    let s = line(b"0 alone", State::fresh().create(), 0);
+    let s = line(b"0 receives any", s.receive(Number(ANY)), 0);
+    line(b"tick", s.tick(), 0);
+}
+
+// 32 creates pass; the 33rd does not.
+fn fills() {
+    let mut s = State::fresh();
+    let mut i = 0;
+    while i < lines::PLACES {
+        let r = s.create();
+        let after = r.state;
+        s = after;
+        i += 1;
+    }
+    let s = line(b"create with 32 live", s.create(), 31);
+    console::text(b"    live: ");
+    console::number(s.live() as u64);
+    console::text(b"\n");
+}

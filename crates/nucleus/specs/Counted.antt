@@ -1,0 +1,96 @@
+-- The counted cases (document 01), as the contract of `State::step` gives them: whatever replies meet it, event by event, they end as the table says.
+use mathlib.Core.Path.{_≡_, refl, sym, ap, subst, _∙_}
+use mathlib.Core.List.{List, [], _∷_, map}
+use Prim.Native.Nat.{ℕ, zero, suc, _≤_}
+use native.Mathlib.Omega.{arith}
+use Rattle.lists.specs.Lists.{bit}
+use Rattle.rules.specs.Model.{Model, lastNumber, thread}
+use Rattle.rules.specs.Rules.{Outcome, outcome, fresh, gave, after}
+use Rattle.rules.specs.Consistent.{belongs, Consistent}
+use Rattle.rules.specs.Counted.{Seen, Case, played, begun, found, one, cases, counted}
+use Rattle.rules.specs.declared.Event.{Event}
+use Rattle.order.specs.Keeps.{fresh-consistent, always}
+use Rattle.nucleus.specs.View.{view, Consists, Shows, Looked, held, refused}
+use Rattle.nucleus.specs.Answers.{Meets, Answers}
+use Rattle.nucleus.specs.declared.State.{State}
+use Rattle.nucleus.specs.declared.Reply.{Reply}
+
+-- from the reply r on, the events es lead to the reply z: each reply meets the contract of `step`
+pub data Plays : Reply → List Event → Reply → Type 0 where
+  done : {r : Reply} → Plays r [] r
+  more : {r t z : Reply} {e : Event} {es : List Event} → Answers (r .state) e t → Plays t es z → Plays r (e ∷ es) z
+
+-- one reply, to the letter
+follows : {o : Outcome} {r t : Reply} (e : Event) → Meets o r → Answers (r .state) e t → Meets (outcome e (o .state)) t
+follows {o} {r} {t} e m (held k a) = subst (λ (x : Model). Meets (outcome e x) t) (m .state .seen) a
+follows e m (refused n a) = absurd (n (m .state .consists))
+
+-- what is seen of a reply, with the thread at p
+abbrev pub shownBy : Reply → ℕ → Seen
+shownBy z p = record { code = z .code; number = z .number .0; choice = z .choice; thread = thread (view (z .state)) p }
+
+seen-of : {o : Outcome} {z : Reply} (p : ℕ) → Meets o z → shownBy z p ≡ played o [] p
+seen-of {o} {z} p m =
+    let c = m .code in
+    let n = m .number in
+    let x = m .choice in
+    let t = ap (λ (m : Model). thread m p) (m .state .seen) in
+    λ i. record { code = c i; number = n i; choice = x i; thread = t i }
+
+pub plays-out : {r z : Reply} {es : List Event} (o : Outcome) (p : ℕ) → Meets o r → Plays r es z → shownBy z p ≡ played o es p
+plays-out o p m done = seen-of p m
+plays-out {r} o p m (more {t = t} {e = e} a k) = plays-out (outcome e (o .state)) p (follows e m a) k
+
+-- of every case
+abbrev pub Every : (Case → Type 0) → List Case → Type 0
+Every P [] = Unit {0}
+Every P (c ∷ cs) = P c × Every P cs
+
+each : (cs : List Case) → map found cs ≡ map (λ c. c .seen) cs → Every (λ c. found c ≡ c .seen) cs
+each [] e = tt
+each (c ∷ cs) e = (let h : found c ≡ c .seen = cc in h, each cs (let t : map found cs ≡ map (λ c. c .seen) cs = cc in t))
+
+every : (P Q : Case → Type 0) → ((c : Case) → P c → Q c) → (cs : List Case) → Every P cs → Every Q cs
+every P Q f [] k = tt
+every P Q f (c ∷ cs) k = (f c (k .0), every P Q f cs (k .1))
+
+-- THE TABLE, of what the code answers: begun with a consistent state that stands for the case's start, the replies end with what the document says
+pub counted-code : Every (λ c. (r z : Reply) → Meets (begun (c .start)) r → Plays r (c .events) z → shownBy z (c .place) ≡ c .seen) cases
+counted-code =
+    every (λ c. found c ≡ c .seen) (λ c. (r z : Reply) → Meets (begun (c .start)) r → Plays r (c .events) z → shownBy z (c .place) ≡ c .seen)
+    (λ c e r z m k. plays-out (begun (c .start)) (c .place) m k ∙ e) cases (each cases counted)
+
+-- and there is such a state to begin with: every case starts from a consistent model
+
+gave-consistent : (m : Model) (n : ℕ) → n ≤ lastNumber → Consistent m → Consistent (gave n m)
+gave-consistent m n h C = record {
+  threads = C .threads;
+  lines = C .lines;
+  words = C .words;
+  differ = C .differ;
+  numbers = C .numbers;
+  last = h;
+  one = C .one;
+  busy = C .busy;
+  settled = C .settled;
+  stood = λ p q. C .stood p q ∙ ap bit (same p q);
+  table = C .table;
+  served = C .served;
+  apart = C .apart;
+  any = C .any;
+  from = C .from;
+  answers = C .answers;
+  clean = C .clean;
+}
+  where
+    same : (p q : ℕ) → belongs m (thread m p) q ≡ belongs (gave n m) (thread m p) q
+    same p zero = refl
+    same p (suc zero) = refl
+    same p (suc (suc r)) = refl
+
+wrapped : Consistent (gave lastNumber (after one fresh))
+wrapped = gave-consistent (after one fresh) lastNumber (omega arith) (always one fresh fresh-consistent (omega arith, tt))
+
+pub starts : Every (λ c. Consistent (c .start)) cases
+unfolding cases
+starts = (fresh-consistent, (fresh-consistent, (fresh-consistent, (fresh-consistent, (fresh-consistent, (fresh-consistent, (fresh-consistent, (fresh-consistent, (fresh-consistent, (fresh-consistent, (fresh-consistent, (fresh-consistent, (wrapped, (fresh-consistent, (fresh-consistent, (fresh-consistent, (fresh-consistent, tt)))))))))))))))))
