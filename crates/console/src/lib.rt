@@ -1,7 +1,8 @@
 // What the programs share: reading the file or standard input, and printing what an event answers. What is printed is not proved, but compared with stored
 // output.
-ghost use Prim.Native.Nat.{_≤_};
+ghost use Prim.Native.Nat.{_≤_, _<_};
 ghost use lib.ListN.{length};
+ghost use Rattle.console.specs.Within.{Within};
 use libc::STDIN_FILENO;
 use libc::STDOUT_FILENO;
 use rules::Choice;
@@ -72,4 +73,55 @@ pub fn file(i: usize, buffer: &mut [u8]) -> usize
     let got = io::read_full(file, buffer);
     libc::close(file);
     got
+}
+
+// A field of the data that a program is run on: two bytes say how long it is, and it follows. What runs past the end is cut.
+pub struct Field {
+    pub start: usize,
+    pub end: usize,
+}
+
+pub fn field_at(bytes: &[u8], at: usize) -> Field
+    ensures { λ r. ⌜ Within (now (bytes .entry)) at r ⌝ }
+{
+    let all = bytes.len();
+    if all < 2 {
+        return Field {
+            start: all,
+            end: all,
+        };
+    }
+    if at > all - 2 {
+        return Field {
+            start: all,
+            end: all,
+        };
+    }
+    let start = at + 2;
+    let n = wide(bytes[at]) + 256 * wide(bytes[at + 1]);
+    if n > all - start {
+        return Field { start: start, end: all };
+    }
+    Field {
+        start: start,
+        end: start + n,
+    }
+}
+
+fn wide(x: u8) -> usize
+    ensures { λ r. ⌜ r < 256 ⌝ }
+{
+    x as usize
+}
+
+// A number of four bytes, little-endian; 0 where they are not all there.
+pub fn number_at(bytes: &[u8], at: usize) -> usize {
+    let all = bytes.len();
+    if all < 4 {
+        return 0;
+    }
+    if at > all - 4 {
+        return 0;
+    }
+    wide(bytes[at]) + 256 * (wide(bytes[at + 1]) + 256 * (wide(bytes[at + 2]) + 256 * wide(bytes[at + 3])))
 }
