@@ -9,8 +9,8 @@ use Rattle.rules.specs.declared.Choice.{Choice}
 use Rattle.rules.specs.declared.Choice.the-variants.{Halt}
 use Rattle.table.specs.Cells.{shown}
 use Rattle.table.specs.declared.Desk.{Desk}
-use Rattle.threads.specs.Events.{Ran}
-use Rattle.threads.specs.declared.Outcome.{Outcome as Ended}
+use Rattle.threads.specs.Ran.{Ran}
+use Rattle.events.specs.declared.Outcome.{Outcome as Ended}
 use Rattle.nucleus.specs.View.{view, deskOf, laid, Consists, Shows, Looked, held, refused}
 use Rattle.nucleus.specs.Settled.{shows-one}
 use Rattle.nucleus.specs.declared.State.{State}

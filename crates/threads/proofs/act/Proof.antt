@@ -1,6 +1,6 @@
 -- `act` meets its contract: each arm is the event's core.
 use borrow.Author.Needs.{needs}
-use Rattle.threads.specs.Events.{same-event}
+use Rattle.threads.specs.Ran.{same-event}
 use Rattle.threads.proofs.act.Statement.{statement}
 use Rattle.threads.proofs.act.Tie as tie
 

@@ -1,7 +1,7 @@
 -- `run` meets its contract: a refused event leaves all as it was; after another, the front of ready is started.
 use borrow.Author.Needs.{needs}
 use native.Mathlib.Omega.{arith}
-use Rattle.threads.specs.Events.{ran-not, ran}
+use Rattle.threads.specs.Ran.{ran-not, ran}
 use Rattle.threads.proofs.run.Statement.{statement}
 use Rattle.threads.proofs.run.Tie as tie
 
