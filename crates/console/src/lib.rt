@@ -100,7 +100,10 @@ pub fn field_at(bytes: &[u8], at: usize) -> Field
     let start = at + 2;
     let n = wide(bytes[at]) + 256 * wide(bytes[at + 1]);
     if n > all - start {
-        return Field { start: start, end: all };
+        return Field {
+            start: start,
+            end: all,
+        };
     }
     Field {
         start: start,
@@ -123,5 +126,6 @@ pub fn number_at(bytes: &[u8], at: usize) -> usize {
     if at > all - 4 {
         return 0;
     }
-    wide(bytes[at]) + 256 * (wide(bytes[at + 1]) + 256 * (wide(bytes[at + 2]) + 256 * wide(bytes[at + 3])))
+    wide(bytes[at])
+        + 256 * (wide(bytes[at + 1]) + 256 * (wide(bytes[at + 2]) + 256 * wide(bytes[at + 3])))
 }

@@ -1,7 +1,6 @@
 // Runs the reader's vectors: each log is read once from a position, and a line says the code, the record's bytes and the position then.
 ghost use Prim.Native.Nat.{_≤_, _<_};
 ghost use lib.ListN.{length};
-
 use journal::Read;
 
 fn main() {

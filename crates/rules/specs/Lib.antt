@@ -3,3 +3,4 @@ pub mod Model
 pub mod Rules
 pub mod Consistent
 pub mod Counted
+pub mod Orders

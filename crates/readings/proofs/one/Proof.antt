@@ -26,7 +26,7 @@ reading-requires : tie.Need-reading-requires
 reading-requires c κs = search needs
 
 returns : tie.Need-returns
-returns c = 
+returns c =
     let f = c .before .before .before .before .field-at .ensures in
     let g = c .before .before .before .field-at2 .ensures in
     let a = f .on (c .before .before .before .before .before .before .pre) in
