@@ -25,6 +25,15 @@ pub fn hex(b: &[u8]) {
     }
 }
 
+// The first n bytes, as far as there are.
+pub fn hex_front(b: &[u8], n: usize) {
+    if n > b.len() {
+        hex(b);
+        return;
+    }
+    hex(&b[..n]);
+}
+
 fn hex_byte(b: u8) {
     io::print_hex(STDOUT_FILENO, b as u64, 2);
 }

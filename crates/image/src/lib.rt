@@ -1,1 +1,39 @@
 // The image of a state: saved into a lent buffer, loaded from any bytes, and a thread's part of it looked up by number.
+ghost use Rattle.image.specs.Loads.{Loads};
+ghost use Rattle.image.specs.Sees.{Sees};
+use nucleus::State;
+use rules::Number;
+
+mod bytes;
+mod judge;
+mod look;
+mod read;
+pub mod save;
+
+// What load answers: document 01's code, and the state.
+pub struct Loaded {
+    pub code: u8,
+    pub state: State,
+}
+
+// The state of which the bytes are the image. Any bytes may come.
+pub fn load(image: &[u8]) -> Loaded
+    ensures { λ r. ⌜ Loads (now (image .entry)) r ⌝ }
+{
+    let code = judge::head_code(image);
+    if code != 0 {
+        return judge::refuse(code);
+    }
+    judge::judge(image)
+}
+
+// The body of the thread with the number n, with its inbox: a part of the caller's own image. An empty part where load refuses the image, or nobody in it
+// has the number.
+pub fn look_up(image: &[u8], n: Number) -> &[u8]
+    ensures { λ r. ⌜ Sees (now (image .entry)) (n .0) (now r) ⌝ }
+{
+    let part = look::part_of(image, n.0);
+    let from = part.from;
+    let to = part.to;
+    &image[from..to]
+}

@@ -11,7 +11,7 @@ use lib.Seq.{getD-set-same, getD-set-other}
 use Rattle.lists.specs.Lists.{none, among}
 use Rattle.lists.specs.Laws.{by-test, never, not-cons, not-append, not-left}
 use Rattle.lines.specs.Lines.{lineOf, Loose, Path, lastCell, Tidy, Turned}
-use Rattle.lines.specs.Walks.{last-not, last-append, path-same, path-high, path-in, last-some, path-join, last-own}
+use Rattle.lines.specs.Walks.{last-not, last-append, path-same, path-high, path-in, last-some, path-join, last-own, last-high}
 use Rattle.lines.specs.Arrays.{once, is-upd, is-turned}
 
 module _ {P N : ℕ} {l : List ℕ} (k : Tidy P N l) {q : ℕ} (b : q < N) (small : P ≤ none) where
@@ -21,6 +21,19 @@ module _ {P N : ℕ} {l : List ℕ} (k : Tidy P N l) {q : ℕ} (b : q < N) (smal
 
   pub join-some : (getD l (P + N + q) 0 ≡ none → ⊥) → getD l (P + N + q) 0 ≡ lastCell (P + q) (lineOf P l q)
   join-some h = k .tails q b ∙ last-some P (P + q) (lineOf P l q) (λ e. h (k .tails q b ∙ e))
+
+  -- the same, where what is no place is taken for none
+  pub hang-own : P ≤ getD l (P + N + q) 0 → P + q ≡ lastCell (P + q) (lineOf P l q)
+  hang-own h =
+      by-test (eqb (getD l (P + N + q) 0) none)
+      (λ t. join-own (eqb-true _ _ t))
+      (λ t.
+      let n = eqb-false _ _ t in
+      let e = join-some n in
+      absurd (n (k .tails q b ∙ sym (last-high P l (P + q) (lineOf P l q) none (k .linked q b) (omega arith)))))
+
+  pub hang-some : getD l (P + N + q) 0 < P → getD l (P + N + q) 0 ≡ lastCell (P + q) (lineOf P l q)
+  hang-some h = join-some (λ e. omega arith)
 
   pub join-in : lastCell (P + q) (lineOf P l q) < length l
   join-in =

@@ -62,6 +62,21 @@ pub fn join(l: &mut Links, q: u8, p: u8)
     l[LAST + line] = p;
 }
 
+// As join, of bytes that nobody vouches for: where the array is tidy, and p a place that stands in no line, p goes to the back of line q.
+pub fn hang(l: &mut Links, q: u8, p: u8)
+    requires { ⌜ q < lineCount ⌝ }
+    ensures { λ r. ⌜ (Tidy places lineCount (now (l .entry)) → p < places → Loose lineCount (lineOf places (now (l .entry))) p → Turned places lineCount (now (l .entry)) (now (l .exit)) q (lineOf places (now (l .entry)) q ++ (p ∷ []))) ⌝ }
+{
+    if wide(p) >= PLACES {
+        return;
+    }
+    let line = q as usize;
+    let last = wide(l[LAST + line]);
+    let at = if last < PLACES { last } else { PLACES + line };
+    l[at] = p;
+    l[LAST + line] = p;
+}
+
 // p, which stands in line q behind the cell at, goes out. Its own cell is cleaned: else the same lines would have two arrays.
 fn cut(l: &mut Links, q: u8, at: usize, p: u8)
     requires { ⌜ Tidy places lineCount (now l) × (q < lineCount) × Behind places (now l) q at p ⌝ }
