@@ -1,7 +1,6 @@
 pub mod Format
 pub mod Example
 pub mod Longest
-pub mod Reached
 pub mod Laid
 pub mod Walk
 pub mod Lining
@@ -11,6 +10,7 @@ pub mod Places
 pub mod Written
 pub mod Save
 pub mod Saving
+pub mod Reached
 pub mod Positions
 pub mod Reading
 pub mod Finds
@@ -22,6 +22,6 @@ pub mod Loads
 pub mod Judges
 pub mod Injective
 pub mod Accepts
+pub mod RoundTrip
 pub mod Sees
 pub mod Looks
-pub mod RoundTrip

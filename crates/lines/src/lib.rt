@@ -70,11 +70,11 @@ pub fn hang(l: &mut Links, q: u8, p: u8)
     if wide(p) >= PLACES {
         return;
     }
-    let line = q as usize;
-    let last = wide(l[LAST + line]);
-    let at = if last < PLACES { last } else { PLACES + line };
+    let own = q as usize;
+    let last = wide(l[LAST + own]);
+    let at = if last < PLACES { last } else { PLACES + own };
     l[at] = p;
-    l[LAST + line] = p;
+    l[LAST + own] = p;
 }
 
 // p, which stands in line q behind the cell at, goes out. Its own cell is cleaned: else the same lines would have two arrays.

@@ -1,7 +1,6 @@
 // Runs the image's vectors: a line says load's code, the image saved again, the choice, and the part of each number that is looked up.
 ghost use Prim.Native.Nat.{_≤_, _<_};
 ghost use lib.ListN.{length};
-
 use nucleus::State;
 use rules::Number;
 

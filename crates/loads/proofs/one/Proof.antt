@@ -50,7 +50,7 @@ text-requires : tie.Need-text-requires
 text-requires c κs = search needs
 
 returns : tie.Need-returns
-returns c = 
+returns c =
     let f = c .before .before .before .before .before .before .before .before .field-at .ensures in
     let g = c .before .before .before .before .before .before .before .field-at2 .ensures in
     let a = f .on (c .before .before .before .before .before .before .before .before .before .before .pre) in

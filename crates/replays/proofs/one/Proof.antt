@@ -32,7 +32,7 @@ replayed-requires : tie.Need-replayed-requires
 replayed-requires c κs = search needs
 
 returns : tie.Need-returns
-returns c = 
+returns c =
     let f = c .before .before .before .before .field-at .ensures in
     let g = c .before .before .before .field-at2 .ensures in
     let a = f .on (c .before .before .before .before .before .before .pre) in
