@@ -50,14 +50,25 @@ fn thread(s: State, p: u8) {
 
 fn fresh() {
     console::text(b"fresh: ");
-    console::choice(State::fresh().choice());
+    let s = State::fresh();
+    console::choice(s.choice());
+    console::text(b"\n");
+    kept(s);
+}
+
+// The image, as it would be kept.
+fn kept(s: State) {
+    console::text(b"    image ");
+    console::image_of(s);
     console::text(b"\n");
 }
 
 // Create twice.
 fn two() -> State {
     let s = line(b"create", State::fresh().create(), 0);
-    line(b"create again", s.create(), 1)
+    let s = line(b"create again", s.create(), 1);
+    kept(s);
+    s
 }
 
 // The pair meets: 0 receives, 1 sends, 0 replies.

@@ -5,6 +5,7 @@ ghost use lib.ListN.{length};
 ghost use Rattle.console.specs.Within.{Within};
 use libc::STDIN_FILENO;
 use libc::STDOUT_FILENO;
+use nucleus::State;
 use rules::Choice;
 use rules::Number;
 
@@ -36,6 +37,13 @@ pub fn hex_front(b: &[u8], n: usize) {
 
 fn hex_byte(b: u8) {
     io::print_hex(STDOUT_FILENO, b as u64, 2);
+}
+
+// The image of a state.
+pub fn image_of(s: State) {
+    let mut buffer = [0u8; image::save::LONGEST];
+    let r = image::save::save(s, &mut buffer);
+    hex_front(&buffer, r.length);
 }
 
 // `run N`, `halt`, `wait` or `stuck`.

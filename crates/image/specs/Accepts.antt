@@ -1,14 +1,18 @@
 -- What the promise of load comes to: 0 for the images of consistent states and for nothing else, the state that was saved, and one answer for any bytes.
 use mathlib.Core.Path.{_≡_, sym, _∙_}
 use mathlib.Core.List.{List}
+use lib.Dec.{eqb, ltb}
+use lib.ListN.{length, getD}
+use Rattle.lists.specs.Laws.{by-test}
+use Rattle.lists.specs.Bytes.{twoAt}
 use Prim.Native.Nat.{ℕ}
 use native.Mathlib.Omega.{arith}
 use Rattle.rules.specs.Model.{Model}
 use Rattle.rules.specs.Consistent.{Consistent}
 use Rattle.nucleus.specs.View.{view, Shows}
 use Rattle.nucleus.specs.Settled.{settled, shows-one}
-use Rattle.image.specs.Format.{encode}
-use Rattle.image.specs.Loads.{Foreign, Refused, Accepted, Judged, foreign, accepted, Loads, bad-head, good-head}
+use Rattle.image.specs.Format.{edition, headLength, encode}
+use Rattle.image.specs.Loads.{headCode, Foreign, Refused, Accepted, Judged, foreign, accepted, Loads, bad-head, good-head}
 use Rattle.image.specs.Judges.{image-of, head-image}
 use Rattle.image.specs.Injective.{encode-injective}
 use Rattle.image.specs.declared.Loaded.{Loaded}
@@ -22,6 +26,20 @@ pub accepts : {s : List ℕ} {r : Loaded} → Loads s r → (r .code ≡ 0 → I
 accepts (bad-head n R) = (λ z. absurd (n (sym (R .told) ∙ z)), λ w. absurd (n (head-image (image-of (w .1) (w .2)))))
 accepts (good-head h (foreign f R)) = (λ z. let t = R .told in absurd (omega arith), λ w. absurd (f (w .0) (w .1) (w .2)))
 accepts {r = r} (good-head h (accepted A)) = (λ z. (view (r .state), A .consists .consistent, A .image), λ w. A .told)
+
+-- and 10 exactly where neither 8 nor 9 is given and the bytes are the image of no consistent model
+head-codes : (s : List ℕ) → headCode s ≡ 10 → ⊥
+head-codes s e =
+    by-test (ltb (length s) headLength)
+    (λ t. let z : _≡_ {A = ℕ} 8 10 = rw t at e in omega arith)
+    (λ t. by-test (eqb (getD s 0 0) edition)
+    (λ u. by-test (eqb (twoAt s 6) (length s)) (λ v. let z : _≡_ {A = ℕ} 0 10 = rw (t, u, v) at e in omega arith) (λ v. let z : _≡_ {A = ℕ} 8 10 = rw (t, u, v) at e in omega arith))
+    (λ u. let z : _≡_ {A = ℕ} 9 10 = rw (t, u) at e in omega arith))
+
+pub refuses : {s : List ℕ} {r : Loaded} → Loads s r → (r .code ≡ 10 → (headCode s ≡ 0) × Foreign s) × (headCode s ≡ 0 → Foreign s → r .code ≡ 10)
+refuses {s} (bad-head n R) = (λ z. absurd (head-codes s (sym (R .told) ∙ z)), λ h f. absurd (n h))
+refuses (good-head h (foreign f R)) = (λ z. (h, f), λ g k. R .told)
+refuses {r = r} (good-head h (accepted A)) = (λ z. let t = A .told in absurd (omega arith), λ g k. absurd (k (view (r .state)) (A .consists .consistent) (A .image)))
 
 -- what was saved is loaded
 pub loads-back : {s : List ℕ} {r : Loaded} (m : Model) → Consistent m → encode m ≡ s → Loads s r → Shows (r .state) m

@@ -1,5 +1,4 @@
 pub mod Format
-pub mod Example
 pub mod Longest
 pub mod Laid
 pub mod Walk
@@ -25,3 +24,4 @@ pub mod Accepts
 pub mod RoundTrip
 pub mod Sees
 pub mod Looks
+pub mod Counted

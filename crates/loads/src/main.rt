@@ -1,7 +1,6 @@
 // Runs the image's vectors: a line says load's code, the image saved again, the choice, and the part of each number that is looked up.
 ghost use Prim.Native.Nat.{_≤_, _<_};
 ghost use lib.ListN.{length};
-use nucleus::State;
 use rules::Number;
 
 fn main() {
@@ -43,17 +42,10 @@ fn loaded(bytes: &[u8]) {
     let s = r.state;
     console::number(r.code as u64);
     console::text(b" ");
-    saved(s);
+    console::image_of(s);
     console::text(b" ");
     console::choice(s.choice());
     console::text(b" ");
-}
-
-// The image of a state.
-fn saved(s: State) {
-    let mut buffer = [0u8; image::save::LONGEST];
-    let r = image::save::save(s, &mut buffer);
-    console::hex_front(&buffer, r.length);
 }
 
 // Each number, and the part that it has.

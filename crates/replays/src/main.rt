@@ -48,8 +48,6 @@ fn replayed(bytes: &[u8], log: &[u8]) {
     console::choice(choice);
     console::text(b" ");
     let after = r.state;
-    let mut buffer = [0u8; image::save::LONGEST];
-    let saved = image::save::save(after, &mut buffer);
-    console::hex_front(&buffer, saved.length);
+    console::image_of(after);
     console::text(b"\n");
 }
