@@ -6,6 +6,7 @@ use native.Mathlib.Omega.{arith}
 use Rattle.lists.specs.Lists.{tally}
 use Rattle.rules.specs.Model.{Model, allPlaces}
 use Rattle.rules.specs.Rules.{firstFree, fresh, after}
+use Rattle.rules.specs.Counted.{found, cases, counted}
 use Rattle.rules.specs.declared.Event.{Event}
 use Rattle.rules.specs.declared.Event.the-variants.{Create}
 use Rattle.order.specs.Keeps.{AllFit, fresh-consistent, always}
@@ -52,3 +53,7 @@ counted-images = (
   (refl, λ r L. loads-back fresh fresh-consistent refl L),
   ((refl, λ r L. loads-back (after (Create ∷ Create ∷ []) fresh) (always (Create ∷ Create ∷ []) fresh fresh-consistent (omega arith, (omega arith, tt))) refl L), tt),
 )
+
+-- THE COUNTED CASES, those of the rules and those of the image, as one fact
+pub counted-all : (map found cases ≡ map (λ c. c .seen) cases) × Every (λ c. (encode (state c) ≡ c .image) × ((r : Loaded) → Loads (c .image) r → Shows (r .state) (state c))) images
+counted-all = (counted, counted-images)

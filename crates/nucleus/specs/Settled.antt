@@ -1,7 +1,7 @@
 -- The model of a consistent state settles every byte of it.
 use mathlib.Core.Path.{_≡_, refl, sym, ap, ap₂, subst, _∙_}
 use mathlib.Core.List.{List, [], _∷_}
-use mathlib.Core.Bool.{not}
+use mathlib.Core.Bool.{Bool, true, false, not}
 use Prim.Native.Nat.{ℕ, zero, suc}
 use lib.Dec.{eqb}
 use lib.ListN.{replicate}
@@ -10,11 +10,15 @@ use Rattle.lists.specs.Tables.{tab-ext}
 use Rattle.lines.specs.Lines.{lineOf, Clear}
 use Rattle.filled.specs.Filled.{wordOf}
 use Rattle.filled.specs.Words.{word-none}
-use Rattle.rules.specs.Model.{places, lineCount, lastNumber, Empty, Thread, vacant, Model}
+use Rattle.lists.specs.Tells.{Tells}
+use Rattle.rules.specs.declared.Place.{Place}
+use Rattle.rules.specs.Model as Model
+use Rattle.rules.specs.Model.{places, lineCount, lastNumber, Empty, vacant}
 use Rattle.rules.specs.Rules.{fresh}
 use Rattle.rules.specs.Consistent.{Consistent}
 use Rattle.order.specs.Keeps.{fresh-consistent}
-use Rattle.table.specs.Cells.{threadOf, modelOf, standsAt}
+use Rattle.table.specs.Cells.{threadOf, modelOf, standsAt, asThread}
+use Rattle.table.specs.declared.Thread.{Thread}
 use Rattle.table.specs.Rows.{same-blocks, same-words, same-lines}
 use Rattle.table.specs.Clean.{Emptied}
 use Rattle.nucleus.specs.View.{view, Consists, Shows, Looked, held, refused}
@@ -27,12 +31,12 @@ settled s t a b e =
     let ew = same-words (a .whole) (b .whole) e in
     let el = same-lines (a .whole) (b .whole) e in
     let ef : s .filled ≡ t .filled = a .filled ∙ ap (λ (x : List ℕ). wordOf places (standsAt x)) eb ∙ sym (b .filled) in
-    let ey : s .last .0 ≡ t .last .0 = ap (λ (m : Model). m .last) e in
-    let ex : s .running .0 ≡ t .running .0 = ap (λ (m : Model). m .running) e in
+    let ey : s .last .0 ≡ t .last .0 = ap (λ (m : Model.Model). m .last) e in
+    let ex : s .running .0 ≡ t .running .0 = ap (λ (m : Model.Model). m .running) e in
     λ i. record { filled = ef i; last = record { 0 = ey i }; running = record { 0 = ex i }; blocks = eb i; words = ew i; lines = el i }
 
 -- and so is what shows a model
-pub shows-one : {s t : State} {m : Model} → Shows s m → Shows t m → s ≡ t
+pub shows-one : {s t : State} {m : Model.Model} → Shows s m → Shows t m → s ≡ t
 shows-one {s} {t} a b = settled s t (a .consists) (b .consists) (a .seen ∙ sym (b .seen))
 
 -- so there is one answer to whoever looks
@@ -49,7 +53,7 @@ unfolding tab
 tab-all zero a = refl
 tab-all {A = A} (suc n) a = ap (λ (l : List A). a ∷ l) (tab-all n a)
 
-abbrev as-model : List Thread → List (List ℕ) → Model
+abbrev as-model : List Model.Thread → List (List ℕ) → Model.Model
 as-model t q = record { last = lastNumber; running = none; threads = t; lines = q }
 
 pub fresh-shows : {b w l : List ℕ} → Emptied b w places → Clear places lineCount l
@@ -57,7 +61,7 @@ pub fresh-shows : {b w l : List ℕ} → Emptied b w places → Clear places lin
 fresh-shows {b} {w} {l} k c = record {
   consists = record {
     whole = record { blocks = k .sized .blocks; words = k .sized .words; lines = c .tidy };
-    filled = sym (word-none places (standsAt b) (λ p h. ap (λ (t : Thread). not (eqb (t .standing) Empty)) (k .clean p h)));
+    filled = sym (word-none places (standsAt b) (λ p h. ap (λ (t : Model.Thread). not (eqb (t .standing) Empty)) (k .clean p h)));
     consistent = subst Consistent (sym seen) fresh-consistent;
   };
   seen = seen;
@@ -70,3 +74,28 @@ fresh-shows {b} {w} {l} k c = record {
     seen =
         ap₂ as-model (tab-ext places (threadOf b w) (λ _. vacant) (k .clean) ∙ tab-all places vacant)
         (tab-ext lineCount (lineOf places l) (λ _. no-places) (c .empty) ∙ tab-all lineCount no-places)
+
+-- what is looked at by its values: a place, a thread, a yes or no
+place-same : {r t : Place} → r .0 ≡ t .0 → r ≡ t
+place-same e = λ i. record { 0 = e i }
+
+thread-same : {r t : Thread} → asThread r ≡ asThread t → r ≡ t
+thread-same e = λ i. record {
+  number = record { 0 = e i .number };
+  standing = e i .standing;
+  partner = record { 0 = e i .partner };
+  word = e i .word;
+  answer = record { code = e i .code; who = record { 0 = e i .who }; word = e i .answer };
+}
+
+pub place-one : (s : State) {r t : Place} {a b : ℕ} → Looked s (r .0 ≡ a) (r .0 ≡ b) → Looked s (t .0 ≡ a) (t .0 ≡ b) → r ≡ t
+place-one s x y = place-same (looked-one x y)
+
+pub thread-one : (s : State) {r t : Thread} {a b : Model.Thread} → Looked s (asThread r ≡ a) (asThread r ≡ b) → Looked s (asThread t ≡ a) (asThread t ≡ b) → r ≡ t
+thread-one s x y = thread-same (looked-one x y)
+
+pub told-one : (r t : Bool) {A : Type 0} → Tells r A (A → ⊥) → Tells t A (A → ⊥) → r ≡ t
+told-one true true x y = refl
+told-one false false x y = refl
+told-one true false x y = absurd (y .no refl (x .yes refl))
+told-one false true x y = absurd (x .no refl (y .yes refl))
