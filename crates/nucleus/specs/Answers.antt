@@ -32,11 +32,11 @@ abbrev pub Answers : State → Event → Reply → Type 0
 Answers s e r = Looked s (Meets (outcome e (view s)) r) (r ≡ inconsistent s)
 
 -- what the cores have done is what the rules say
-pub answers : {s st : State} {d : Desk} {b w l : List ℕ} {o : Ended} (e : Event) (x : Choice) → Consists s → d ≡ deskOf s → Ran d (s .blocks) (s .words) (s .lines) e o b w l
-    → ((v : List ℕ) → x ≡ choice (shown (o .desk) b v l)) → st ≡ laid (o .desk) b w l → Answers s e (record { state = st; code = o .code; choice = x; number = o .number })
-answers {s} {w = w} {o = o} e x k z t f y =
+pub meets : {s st : State} {d : Desk} {b w l : List ℕ} {o : Ended} (e : Event) (x : Choice) → d ≡ deskOf s → Ran d (s .blocks) (s .words) (s .lines) e o b w l
+    → ((v : List ℕ) → x ≡ choice (shown (o .desk) b v l)) → st ≡ laid (o .desk) b w l → Meets (outcome e (view s)) (record { state = st; code = o .code; choice = x; number = o .number })
+meets {s} {w = w} {o = o} e x z t f y =
     let u : Ran (deskOf s) (s .blocks) (s .words) (s .lines) e o _ w _ = rw z at t in
-    rw y (held k (record { state = record { consists = u .stands; seen = u .seen }; code = u .code; choice = f w ∙ ap choice (u .seen); number = u .number }))
+    rw y (record { state = record { consists = u .stands; seen = u .seen }; code = u .code; choice = f w ∙ ap choice (u .seen); number = u .number })
 
 meets-one : {o : Outcome} {r t : Reply} → Meets o r → Meets o t → r ≡ t
 meets-one a b =

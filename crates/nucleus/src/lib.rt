@@ -3,13 +3,13 @@ ghost use mathlib.Core.Path.{_≡_};
 ghost use Rattle.lists.specs.Lists.{none};
 ghost use Rattle.lists.specs.Tells.{Tells};
 ghost use Rattle.rules.specs.Model.{vacant, thread as threadIn, live as liveIn};
-ghost use Rattle.rules.specs.Rules.{fresh as freshModel, choice as chosen, emptyPlace};
+ghost use Rattle.rules.specs.Rules.{fresh as freshModel, choice as chosen, emptyPlace, outcome};
 ghost use Rattle.rules.specs.declared.Choice.{Choice};
 ghost use Rattle.rules.specs.declared.Choice.the-variants.{Halt};
 ghost use Rattle.table.specs.Cells.{asThread};
 ghost use Rattle.nucleus.specs.View.{view, deskOf, laid, Consists, Shows, Looked};
 ghost use Rattle.rules.specs.declared.Event.the-variants.{Create, Send, Receive, Reply as ReplyTo, End, WaitClock, SliceEnd, Tick};
-ghost use Rattle.nucleus.specs.Answers.{Answers};
+ghost use Rattle.nucleus.specs.Answers.{Meets, Answers};
 use lines::Links;
 use rules::Choice;
 use rules::Event;
@@ -100,6 +100,17 @@ impl State {
         audit::consistent(&b, &w, &l, d)
     }
 
+    // The choice of a state that was tested.
+    pub fn choose(self) -> Choice
+        requires { ⌜ Consists self ⌝ }
+        ensures { λ r. ⌜ r ≡ chosen (view self) ⌝ }
+    {
+        let d = self.desk();
+        let b = self.blocks;
+        let l = self.lines;
+        table::choose(&b, &l, d)
+    }
+
     // Who runs next, or why nobody does. Halt, where the state is not consistent.
     pub fn choice(self) -> Choice
         ensures { λ r. ⌜ Looked self (r ≡ chosen (view self)) (r ≡ Halt) ⌝ }
@@ -107,10 +118,7 @@ impl State {
         if !self.consistent() {
             return Choice::Halt;
         }
-        let d = self.desk();
-        let b = self.blocks;
-        let l = self.lines;
-        table::choose(&b, &l, d)
+        self.choose()
     }
 
     // How many threads live. 0, where the state is not consistent.
@@ -152,18 +160,11 @@ impl State {
         table::read(&b, &w, p)
     }
 
-    // The event e happens to the state. Where the state is not consistent it is handed back as it is, with 14.
-    pub fn step(self, e: Event) -> Reply
-        ensures { λ r. ⌜ Answers self e r ⌝ }
+    // The event e happens to a state that was tested.
+    pub fn act(self, e: Event) -> Reply
+        requires { ⌜ Consists self ⌝ }
+        ensures { λ r. ⌜ Meets (outcome e (view self)) r ⌝ }
     {
-        if !self.consistent() {
-            return Reply {
-                state: self,
-                code: INCONSISTENT,
-                choice: Choice::Halt,
-                number: Number(rules::NOBODY),
-            };
-        }
         let d = self.desk();
         let mut b = self.blocks;
         let mut w = self.words;
@@ -179,6 +180,21 @@ impl State {
             choice: choice,
             number: n,
         }
+    }
+
+    // The event e happens to the state. Where the state is not consistent it is handed back as it is, with 14.
+    pub fn step(self, e: Event) -> Reply
+        ensures { λ r. ⌜ Answers self e r ⌝ }
+    {
+        if !self.consistent() {
+            return Reply {
+                state: self,
+                code: INCONSISTENT,
+                choice: Choice::Halt,
+                number: Number(rules::NOBODY),
+            };
+        }
+        self.act(e)
     }
 
     // 1
