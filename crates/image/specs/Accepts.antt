@@ -1,5 +1,6 @@
 -- What the promise of load comes to: 0 for the images of consistent states and for nothing else, the state that was saved, and one answer for any bytes.
 use mathlib.Core.Path.{_≡_, sym, _∙_}
+use mathlib.Core.Logic.{_≢_}
 use mathlib.Core.List.{List}
 use lib.Dec.{eqb, ltb}
 use lib.ListN.{length, getD}
@@ -12,7 +13,7 @@ use Rattle.rules.specs.Consistent.{Consistent}
 use Rattle.nucleus.specs.View.{view, Shows}
 use Rattle.nucleus.specs.Settled.{settled, shows-one}
 use Rattle.image.specs.Format.{edition, headLength, encode}
-use Rattle.image.specs.Loads.{headCode, Foreign, Refused, Accepted, Judged, foreign, accepted, Loads, bad-head, good-head}
+use Rattle.image.specs.Loads.{headCode, Foreign, Refused, Accepted, Judged, foreign, accepted, Loads, bad-head, good-head, Refuses, by-head, by-whole}
 use Rattle.image.specs.Judges.{image-of, head-image}
 use Rattle.image.specs.Injective.{encode-injective}
 use Rattle.image.specs.declared.Loaded.{Loaded}
@@ -40,6 +41,30 @@ pub refuses : {s : List ℕ} {r : Loaded} → Loads s r → (r .code ≡ 10 → 
 refuses {s} (bad-head n R) = (λ z. absurd (head-codes s (sym (R .told) ∙ z)), λ h f. absurd (n h))
 refuses (good-head h (foreign f R)) = (λ z. (h, f), λ g k. R .told)
 refuses {r = r} (good-head h (accepted A)) = (λ z. let t = A .told in absurd (omega arith), λ g k. absurd (k (view (r .state)) (A .consists .consistent) (A .image)))
+
+-- code 0 says that the bytes are the image of the state given
+pub accepted-of : {s : List ℕ} {r : Loaded} → Loads s r → r .code ≡ 0 → Accepted s r
+accepted-of (bad-head n R) z = absurd (n (sym (R .told) ∙ z))
+accepted-of (good-head h (foreign f R)) z = let t = R .told in absurd (omega arith)
+accepted-of (good-head h (accepted A)) z = A
+
+-- any other code than 0 is a refusal, ..
+pub refuses-of : {s : List ℕ} {r : Loaded} → Loads s r → r .code ≢ 0 → Refuses s (r .code)
+refuses-of (bad-head n R) k = by-head n (R .told)
+refuses-of (good-head h (foreign f R)) k = by-whole h f (R .told)
+refuses-of (good-head h (accepted A)) k = absurd (k (A .told))
+
+-- .. no image of a consistent model is refused, ..
+pub refuses-not : {s : List ℕ} {c : ℕ} → Refuses s c → IsImage s → ⊥
+refuses-not (by-head n e) w = n (head-image (image-of (w .1) (w .2)))
+refuses-not (by-whole h f e) w = f (w .0) (w .1) (w .2)
+
+-- .. and bytes are refused with one code
+pub refuses-one : {s : List ℕ} {c d : ℕ} → Refuses s c → Refuses s d → c ≡ d
+refuses-one (by-head n e) (by-head k g) = e ∙ sym g
+refuses-one (by-head n e) (by-whole h f g) = absurd (n h)
+refuses-one (by-whole h f e) (by-head k g) = absurd (k h)
+refuses-one (by-whole h f e) (by-whole j k g) = e ∙ sym g
 
 -- what was saved is loaded
 pub loads-back : {s : List ℕ} {r : Loaded} (m : Model) → Consistent m → encode m ≡ s → Loads s r → Shows (r .state) m

@@ -14,7 +14,7 @@ use Rattle.lists.specs.Bytes.{twoAt}
 use Rattle.rules.specs.Model.{places, Model, inbox, thread, line, allPlaces, livesAt, live}
 use Rattle.image.specs.Format.{livePlaces}
 use Rattle.image.specs.Longest.{live-length}
-use Rattle.image.specs.Positions.{offset, live-in, live-distinct, only-not}
+use Rattle.image.specs.Positions.{offset, live-distinct, only-not}
 use Rattle.image.specs.Reading.{Image, threadIn}
 use Rattle.image.specs.Finds.{place-is, number-is, offset-is, thread-is, inbox-length, inbox-is}
 
@@ -52,9 +52,6 @@ module _ {s : List ℕ} {i : ℕ} {m : Model} (I : Image s m) (h : i < live m) w
 
   pub p-low : p < places
   p-low = live-low m p p-among
-
-  pub p-lives : livesAt m p ≡ true
-  p-lives = sym (live-in m p p-low) ∙ p-among
 
   pub p-new : among p qs ≡ false
   p-new = distinct-fore p qs rs (rw split at (live-distinct m))

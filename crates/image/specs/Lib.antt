@@ -22,6 +22,8 @@ pub mod Judges
 pub mod Injective
 pub mod Accepts
 pub mod RoundTrip
+pub mod Locates
+pub mod Locating
 pub mod Sees
 pub mod Looks
 pub mod Counted

@@ -46,3 +46,8 @@ pub data Judged (s : List ℕ) (r : Loaded) : Type 0 where
 pub data Loads (s : List ℕ) (r : Loaded) : Type 0 where
   bad-head : headCode s ≢ 0 → Refused (headCode s) r → Loads s r
   good-head : headCode s ≡ 0 → Judged s r → Loads s r
+
+-- load refuses the bytes s with the code c, said without what it gives
+pub data Refuses (s : List ℕ) (c : ℕ) : Type 0 where
+  by-head : headCode s ≢ 0 → c ≡ headCode s → Refuses s c
+  by-whole : headCode s ≡ 0 → Foreign s → c ≡ 10 → Refuses s c

@@ -1,9 +1,9 @@
 -- What saving promises, of any state and any buffer (document 01, "When the nucleus says no": 14, then 7), and that no second outcome meets it.
 use Prim.Native.Nat.{ℕ, _≤_, _<_}
-use mathlib.Core.Path.{_≡_, sym, _∙_}
+use mathlib.Core.Path.{_≡_, sym, ap, _∙_}
 use mathlib.Core.List.{List, _++_}
 use native.Mathlib.Omega.{arith}
-use lib.ListN.{length, drop}
+use lib.ListN.{length, drop, length-append, length-drop}
 use Rattle.nucleus.specs.View.{view, Consists}
 use Rattle.nucleus.specs.declared.State.{State}
 use Rattle.image.specs.Format.{encode}
@@ -41,3 +41,13 @@ save-one (short k e g) (saved l i h) = absurd (omega arith)
 save-one (saved k e g) (inconsistent l h) = absurd (l k)
 save-one (saved k e g) (short l i h) = absurd (omega arith)
 save-one (saved k e g) (saved l i h) = same g h
+
+-- a buffer is as long as it was
+pub save-length : {s : State} {before a : List ℕ} {c n : ℕ} → Saves s before c n a → length a ≡ length before
+save-length (inconsistent k g) = ap length (g .bytes-are)
+save-length (short k h g) = ap length (g .bytes-are)
+save-length {s} {before} (saved k h g) =
+    let i : List ℕ = encode (view s) in
+    let d = length-drop (length i) before in
+    let l = length-append i (drop (length i) before) in
+    ap length (g .bytes-are) ∙ omega arith

@@ -1,5 +1,6 @@
 // The image of a state: saved into a lent buffer, loaded from any bytes, and a thread's part of it looked up by number.
 ghost use Rattle.image.specs.Loads.{Loads};
+ghost use Rattle.image.specs.Locates.{Locates};
 ghost use Rattle.image.specs.Sees.{Sees};
 use nucleus::State;
 use rules::Number;
@@ -16,6 +17,14 @@ pub struct Loaded {
     pub state: State,
 }
 
+// Where a thread's body stands in an image, with code 0. With load's own code where load refuses the image, or 4 where the number is not live in it, there is
+// no body, and offset and length are 0.
+pub struct Part {
+    pub code: u8,
+    pub offset: usize,
+    pub length: usize,
+}
+
 // The state of which the bytes are the image. Any bytes may come.
 pub fn load(image: &[u8]) -> Loaded
     ensures { λ r. ⌜ Loads (now (image .entry)) r ⌝ }
@@ -27,13 +36,20 @@ pub fn load(image: &[u8]) -> Loaded
     judge::judge(image)
 }
 
+// Where the body of the thread with the number n, with its inbox, stands in the image. Any bytes may come.
+pub fn locate(image: &[u8], n: Number) -> Part
+    ensures { λ r. ⌜ Locates (now (image .entry)) (n .0) (r .code) (r .offset) (r .length) ⌝ }
+{
+    look::part_of(image, n.0)
+}
+
 // The body of the thread with the number n, with its inbox: a part of the caller's own image. An empty part where load refuses the image, or nobody in it
 // has the number.
 pub fn look_up(image: &[u8], n: Number) -> &[u8]
     ensures { λ r. ⌜ Sees (now (image .entry)) (n .0) (now r) ⌝ }
 {
     let part = look::part_of(image, n.0);
-    let from = part.from;
-    let to = part.to;
+    let from = part.offset;
+    let to = from + part.length;
     &image[from..to]
 }

@@ -3,14 +3,12 @@ ghost use mathlib.Core.Path.{_≡_};
 ghost use Prim.Native.Nat.{_+_, _<_};
 ghost use lib.ListN.{getD};
 ghost use Rattle.image.specs.Entry.{bodyAt};
-ghost use Rattle.image.specs.Sees.{Sought, Spans};
+ghost use Rattle.image.specs.Locates.{Locates, Sought};
+use super::Part;
 use super::bytes;
 
-// A part of the image, from `from` to before `to`.
-pub struct Span {
-    pub from: usize,
-    pub to: usize,
-}
+// Document 01's code for a number that is not live.
+const NOT_LIVE: u8 = 4;
 
 // The entry of the number n, or the live count where it has none.
 fn find(image: &[u8], n: u8) -> usize
@@ -29,30 +27,40 @@ fn find(image: &[u8], n: u8) -> usize
 }
 
 // The body that entry i names, with its inbox.
-fn body(image: &[u8], i: usize) -> Span
+fn body(image: &[u8], i: usize) -> Part
     requires { ⌜ i < 256 ⌝ }
-    ensures { λ r. ⌜ (r .from ≡ bodyAt (now (image .entry)) i) × (r .to ≡ r .from + 13 + getD (now (image .entry)) (r .from + 12) 0) ⌝ }
+    ensures { λ r. ⌜ (r .code ≡ 0) × (r .offset ≡ bodyAt (now (image .entry)) i) × (r .length ≡ 13 + getD (now (image .entry)) (r .offset + 12) 0) ⌝ }
 {
     let entry = bytes::HEAD + bytes::ENTRY * i;
     let from = bytes::two(image, entry + bytes::OFFSET);
     let inbox = bytes::wide(bytes::at(image, from + bytes::INBOX_LENGTH));
-    Span {
-        from: from,
-        to: from + bytes::INBOX + inbox,
+    Part {
+        code: 0,
+        offset: from,
+        length: bytes::INBOX + inbox,
     }
 }
 
-// Where the body of the number n is; an empty part where load refuses the image, or nobody has the number.
-pub fn part_of(image: &[u8], n: u8) -> Span
-    ensures { λ r. ⌜ Spans (now (image .entry)) n (r .from) (r .to) ⌝ }
+// Where the body of the number n is. Load's code comes first: of bytes that are no image nothing is told.
+pub fn part_of(image: &[u8], n: u8) -> Part
+    ensures { λ r. ⌜ Locates (now (image .entry)) n (r .code) (r .offset) (r .length) ⌝ }
 {
     let loaded = super::load(image);
-    if loaded.code != 0 {
-        return Span { from: 0, to: 0 };
+    let code = loaded.code;
+    if code != 0 {
+        return Part {
+            code: code,
+            offset: 0,
+            length: 0,
+        };
     }
     let i = find(image, n);
     if i >= bytes::wide(bytes::at(image, bytes::LIVE)) {
-        return Span { from: 0, to: 0 };
+        return Part {
+            code: NOT_LIVE,
+            offset: 0,
+            length: 0,
+        };
     }
     body(image, i)
 }

@@ -8,6 +8,7 @@ ghost use Rattle.lists.specs.Sizes.{places, lineCount};
 ghost use Rattle.lists.specs.Bytes.{twoBytes, wordBytes};
 ghost use Rattle.lines.specs.Lines.{lineOf, Tidy};
 ghost use Rattle.table.specs.Cells.{asThread, shown, Stands};
+ghost use Rattle.nucleus.specs.View.{Consists};
 ghost use Rattle.image.specs.Format.{headLength, entryLength, threadBytes};
 ghost use Rattle.image.specs.Longest.{longestImage};
 ghost use Rattle.image.specs.Laid.{Wrote};
@@ -258,16 +259,11 @@ pub struct Saved {
     pub length: usize,
 }
 
-// Saves any state into any buffer. The image goes into an array of its own first, so that a buffer that is too short stays as it was.
-pub fn save(s: State, buffer: &mut [u8]) -> Saved
+// Saves a state that was tested. The image goes into an array of its own first, so that a buffer that is too short stays as it was.
+pub fn keep(s: State, buffer: &mut [u8]) -> Saved
+    requires { ⌜ Consists s ⌝ }
     ensures { λ r. ⌜ Saves s (now (buffer .entry)) (r .code) (r .length) (now (buffer .exit)) ⌝ }
 {
-    if !s.consistent() {
-        return Saved {
-            code: INCONSISTENT,
-            length: 0,
-        };
-    }
     let d = s.desk();
     let b = s.blocks;
     let w = s.words;
@@ -285,4 +281,17 @@ pub fn save(s: State, buffer: &mut [u8]) -> Saved
         code: DONE,
         length: n,
     }
+}
+
+// Saves any state into any buffer.
+pub fn save(s: State, buffer: &mut [u8]) -> Saved
+    ensures { λ r. ⌜ Saves s (now (buffer .entry)) (r .code) (r .length) (now (buffer .exit)) ⌝ }
+{
+    if !s.consistent() {
+        return Saved {
+            code: INCONSISTENT,
+            length: 0,
+        };
+    }
+    keep(s, buffer)
 }

@@ -1,6 +1,6 @@
 -- `body` meets its contract. Assumes nothing.
 use borrow.Author.Needs.{needs}
-use mathlib.Core.Path.{_∙_}
+use mathlib.Core.Path.{refl, _∙_}
 use native.Mathlib.Omega.{arith}
 use Rattle.image.proofs.look.body.Statement.{statement}
 use Rattle.image.proofs.look.body.Tie as tie
@@ -29,13 +29,10 @@ wide-requires c κs = search needs
 add-t6 : tie.Need-add-t6
 add-t6 c = search needs
 
-add-t8 : tie.Need-add-t8
-add-t8 c = search needs
-
 returns : tie.Need-returns
 returns c =
     let e = c .wide .ensures .0 ∙ c .before .at .ensures in
-    (c .before .before .two .ensures .0, omega arith)
+    (refl, c .before .before .two .ensures .0, omega arith)
 
 pub body-spec : {M : Type 1} → statement M
 body-spec =
@@ -49,5 +46,4 @@ body-spec =
     at-requires
     wide-requires
     add-t6
-    add-t8
     returns)

@@ -1,0 +1,35 @@
+-- `look_up` meets its contract: what was located lies in the image, and is what is to be seen. Assumes nothing.
+use borrow.Author.Needs.{needs}
+use mathlib.Core.Path.{_≡_}
+use Prim.Native.Nat.{_+_, _-_}
+use native.Mathlib.Omega.{arith}
+use Rattle.image.specs.Locating.{locate-within}
+use Rattle.image.specs.Looks.{locate-sees}
+use Rattle.image.proofs.look_up.Statement.{statement}
+use Rattle.image.proofs.look_up.Tie as tie
+
+part-of-requires : tie.Need-part-of-requires
+part-of-requires c κs = search needs
+
+add-to : tie.Need-add-to
+add-to c = let h = locate-within (c .before .part-of .ensures) in search needs
+
+sub-result : tie.Need-sub-result
+sub-result c = search needs
+
+part-result-start : tie.Need-part-result-start
+part-result-start c = search needs
+
+part-result-end : tie.Need-part-result-end
+part-result-end c = let h = locate-within (c .before .part-of .ensures) in search needs
+
+returns : tie.Need-returns
+returns c =
+    let r = c .before .before .part-of .result in
+    let e : r .offset + r .length - r .offset ≡ r .length = omega arith in
+    rw e (locate-sees (c .before .before .part-of .ensures))
+
+pub look-up-spec : {M : Type 1} → statement M
+look-up-spec =
+    tie.close
+    (tie.spec part-of-requires add-to sub-result part-result-start part-result-end returns)

@@ -1,0 +1,164 @@
+-- Locating: what was found is what is promised, the body of the thread stands there, and there is one such answer. Assumes nothing.
+use mathlib.Core.Path.{_≡_, refl, sym, ap, ap₂, _∙_}
+use mathlib.Core.Logic.{_≢_}
+use mathlib.Core.List.{List, [], _∷_, _++_}
+use mathlib.Core.Bool.{true, false}
+use Prim.Native.Nat.{ℕ, suc, _+_, _≤_, _<_}
+use native.Mathlib.Omega.{arith}
+use lib.ListN.{length, take, drop, getD}
+use lib.Seq.{take-at}
+use lib.Dec.{eqb}
+use borrow.Author.Tests.{eqb-false, not-true}
+use Rattle.lists.specs.Lists.{among, Distinct, front, rest}
+use Rattle.lists.specs.Laws.{not-head, not-tail, is-head, is-right, distinct-fore}
+use Rattle.rules.specs.Model.{Empty, Model, thread, livesAt, live}
+use Rattle.order.specs.Sound.{sound, small}
+use Rattle.image.specs.Format.{livePlaces, bodyOf, bodies}
+use Rattle.image.specs.Positions.{offset, live-in, live-distinct}
+use Rattle.image.specs.Reading.{Image}
+use Rattle.image.specs.Finds.{live-is, body, body-in, inbox-length}
+use Rattle.image.specs.Entry.{live-low, split, p-is, n-is, o-is, bodyAt}
+use Rattle.image.specs.Loads.{Loads}
+use Rattle.image.specs.Judges.{image-of}
+use Rattle.image.specs.Injective.{entry-of, encode-injective}
+use Rattle.image.specs.Accepts.{accepts, refuses-of, refuses-not, refuses-one}
+use Rattle.image.specs.Locates.{Spotted, Absent, Locates, spotted, missing, unread, Sought}
+use Rattle.image.specs.declared.Loaded.{Loaded}
+
+pub alive : (m : Model) (p : ℕ) → livesAt m p ≡ true → thread m p .standing ≢ Empty
+alive m p h = eqb-false (thread m p .standing) Empty (not-true (eqb (thread m p .standing) Empty) h)
+
+-- ---- the three ends
+
+body-size : {s : List ℕ} {i : ℕ} {m : Model} → Image s m → i < live m → 13 + getD s (bodyAt s i + 12) 0 ≡ length (bodyOf m (getD (livePlaces m) i 0))
+body-size {s} {i} {m} I h =
+    let z = ap (λ (x : ℕ). getD s (x + 12) 0) (o-is I h) ∙ inbox-length I (take i (livePlaces m)) (getD (livePlaces m) i 0) (drop (suc i) (livePlaces m)) (split I h) in
+    omega arith
+
+module _ {s : List ℕ} {n : ℕ} {r : Loaded} (L : Loads s r) where
+  pub locates-unread : r .code ≢ 0 → Locates s n (r .code) 0 0
+  locates-unread k = unread (refuses-of L k) refl refl
+
+  module _ (z : r .code ≡ 0) {i : ℕ} (k : Sought s n i) where
+    pub locates-missing : getD s 3 0 ≤ i → Locates s n 4 0 0
+    locates-missing h =
+        let w = accepts L .0 z in
+        let I = image-of (w .1) (w .2) in
+        let a : Absent s n = record {
+          m = w .0;
+          consistent = w .1;
+          image = w .2;
+          nobody = λ p l e.
+              let v = entry-of I p (small (w .0) (sound (w .0) (w .1)) p (alive (w .0) p l)) l in
+              let g = live-is I in
+              k .before (v .0) (omega (arith, v .1)) (n-is I (v .1) ∙ ap (λ (q : ℕ). thread (w .0) q .number) (sym (p-is I (v .1)) ∙ v .2) ∙ e);
+        } in
+        missing a refl refl refl
+
+    pub locates-spotted : i < getD s 3 0 → {c a l : ℕ} → c ≡ 0 → a ≡ bodyAt s i → l ≡ 13 + getD s (a + 12) 0 → Locates s n c a l
+    locates-spotted h {c} {a} {l} ec ea el =
+        let w = accepts L .0 z in
+        let I = image-of (w .1) (w .2) in
+        let g : i < live (w .0) = let v = live-is I in omega arith in
+        let f : Spotted s n a l = record {
+          m = w .0;
+          consistent = w .1;
+          image = w .2;
+          place = getD (livePlaces (w .0)) i 0;
+          before = take i (livePlaces (w .0));
+          behind = drop (suc i) (livePlaces (w .0));
+          split = split I g;
+          number = sym (n-is I g) ∙ k .here h;
+          starts = ea ∙ o-is I g;
+          long = el ∙ ap (λ (x : ℕ). 13 + getD s (x + 12) 0) ea ∙ body-size I g;
+        } in
+        spotted f ec
+
+-- ---- the body stands there
+
+module _ {s : List ℕ} {n o l : ℕ} (F : Spotted s n o l) where
+  pub spotted-image : Image s (F .m)
+  spotted-image = image-of (F .consistent) (F .image)
+
+  spotted-among : among (F .place) (livePlaces (F .m)) ≡ true
+  spotted-among = ap (among (F .place)) (F .split) ∙ is-right (F .place) (F .before) (F .place ∷ F .behind) (is-head (F .place) (F .place) (F .behind) refl)
+
+  pub spotted-lives : livesAt (F .m) (F .place) ≡ true
+  spotted-lives = sym (live-in (F .m) (F .place) (live-low (F .m) (F .place) spotted-among)) ∙ spotted-among
+
+  pub locate-body : take l (drop o s) ≡ bodyOf (F .m) (F .place)
+  locate-body =
+      ap (λ (x : ℕ). take l (drop x s)) (F .starts)
+      ∙ ap (take l) (body spotted-image (F .before) (F .place) (F .behind) (F .split))
+      ∙ take-at (bodyOf (F .m) (F .place)) (bodies (F .m) (F .behind)) l (sym (F .long))
+
+  spotted-within : o + l ≤ length s
+  spotted-within =
+      let v = body-in spotted-image (F .before) (F .place) (F .behind) (F .split) in
+      let a = F .starts in
+      let b = F .long in
+      omega arith
+
+-- whatever is answered lies in the image
+pub locate-within : {s : List ℕ} {n c o l : ℕ} → Locates s n c o l → o + l ≤ length s
+locate-within (spotted F z) = spotted-within F
+locate-within (missing A z f g) = omega arith
+locate-within (unread R f g) = omega arith
+
+-- ---- one answer
+
+-- who stands in a list once has one list in front of it
+fore-one : (p : ℕ) (xs ys us vs : List ℕ) → among p xs ≡ false → among p ys ≡ false → xs ++ (p ∷ us) ≡ ys ++ (p ∷ vs) → xs ≡ ys
+fore-one p [] [] us vs h g e = refl
+fore-one p [] (y ∷ ys) us vs h g e = absurd (not-head p y ys g (sym (ap front e)))
+fore-one p (x ∷ xs) [] us vs h g e = absurd (not-head p x xs h (ap front e))
+fore-one p (x ∷ xs) (y ∷ ys) us vs h g e = ap₂ _∷_ (ap front e) (fore-one p xs ys us vs (not-tail p x xs h) (not-tail p y ys g) (ap rest e))
+
+pub record Same (c o l d p k : ℕ) : Type 0 where
+  pub code-same : c ≡ d
+  pub offset-same : o ≡ p
+  pub length-same : l ≡ k
+
+module _ {s : List ℕ} {n o l p k : ℕ} (F : Spotted s n o l) (G : Spotted s n p k) where
+  model-same : F .m ≡ G .m
+  model-same = encode-injective (F .m) (G .m) (F .consistent) (G .consistent) (F .image ∙ sym (G .image))
+
+  place-same : F .place ≡ G .place
+  place-same =
+      let e = model-same in
+      let a : thread (G .m) (F .place) .standing ≢ Empty = rw e at (alive (F .m) (F .place) (spotted-lives F)) in
+      let v : thread (G .m) (F .place) .number ≡ n = rw e at (F .number) in
+      G .consistent .differ (F .place) (G .place) a (alive (G .m) (G .place) (spotted-lives G)) (v ∙ sym (G .number))
+
+  before-same : F .before ≡ G .before
+  before-same =
+      let e : livePlaces (G .m) ≡ F .before ++ (G .place ∷ F .behind) = ap livePlaces (sym model-same) ∙ F .split ∙ ap (λ (q : ℕ). F .before ++ (q ∷ F .behind)) place-same in
+      let d : Distinct (F .before ++ (G .place ∷ F .behind)) = rw e at (live-distinct (G .m)) in
+      let f : Distinct (G .before ++ (G .place ∷ G .behind)) = rw (G .split) at (live-distinct (G .m)) in
+      fore-one (G .place) (F .before) (G .before) (F .behind) (G .behind)
+      (distinct-fore (G .place) (F .before) (F .behind) d)
+      (distinct-fore (G .place) (G .before) (G .behind) f)
+      (sym e ∙ G .split)
+
+  spotted-offset : o ≡ p
+  spotted-offset = F .starts ∙ ap₂ offset model-same before-same ∙ sym (G .starts)
+
+  spotted-length : l ≡ k
+  spotted-length = F .long ∙ ap length (ap₂ bodyOf model-same place-same) ∙ sym (G .long)
+
+spotted-not : {X : Type 0} {s : List ℕ} {n o l : ℕ} → Spotted s n o l → Absent s n → X
+spotted-not F A =
+    let e : F .m ≡ A .m = encode-injective (F .m) (A .m) (F .consistent) (A .consistent) (F .image ∙ sym (A .image)) in
+    absurd (A .nobody (F .place) (rw e at (spotted-lives F)) (rw e at (F .number)))
+
+-- two answers that keep the promise are one
+pub locate-one : {s : List ℕ} {n c o l d p k : ℕ} → Locates s n c o l → Locates s n d p k → Same c o l d p k
+locate-one (spotted F z) (spotted G y) = record { code-same = z ∙ sym y; offset-same = spotted-offset F G; length-same = spotted-length F G }
+locate-one (spotted F z) (missing B y f g) = spotted-not F B
+locate-one (spotted F z) (unread S f g) = absurd (refuses-not S (F .m, F .consistent, F .image))
+locate-one (missing A z a b) (spotted G y) = spotted-not G A
+locate-one (missing A z a b) (missing B y f g) = record { code-same = z ∙ sym y; offset-same = a ∙ sym f; length-same = b ∙ sym g }
+locate-one (missing A z a b) (unread S f g) = absurd (refuses-not S (A .m, A .consistent, A .image))
+locate-one (unread R a b) (spotted G y) = absurd (refuses-not R (G .m, G .consistent, G .image))
+locate-one (unread R a b) (missing B y f g) = absurd (refuses-not R (B .m, B .consistent, B .image))
+locate-one (unread R a b) (unread S f g) = record { code-same = refuses-one R S; offset-same = a ∙ sym f; length-same = b ∙ sym g }
