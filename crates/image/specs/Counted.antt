@@ -1,12 +1,12 @@
 -- The images of "Loads that were counted" (document 01): one table, and both ways: saving gives these bytes, and loading them the state.
 use Prim.Native.Nat.{ℕ}
 use mathlib.Core.Path.{_≡_, refl}
-use mathlib.Core.List.{List, [], _∷_, map}
+use mathlib.Core.List.{List, [], _∷_}
 use native.Mathlib.Omega.{arith}
 use Rattle.lists.specs.Lists.{tally}
+use Rattle.lists.specs.Every.{Every}
 use Rattle.rules.specs.Model.{Model, allPlaces}
 use Rattle.rules.specs.Rules.{firstFree, fresh, after}
-use Rattle.rules.specs.Counted.{found, cases, counted}
 use Rattle.rules.specs.declared.Event.{Event}
 use Rattle.rules.specs.declared.Event.the-variants.{Create}
 use Rattle.order.specs.Keeps.{AllFit, fresh-consistent, always}
@@ -21,7 +21,7 @@ pub record Counted : Type 0 where
   pub events : List Event
   pub image : List ℕ
 
-pub images : List Counted
+unfoldable pub images : List Counted
 images =
     -- Fresh.
     record { events = []; image = 1 ∷ 253 ∷ 255 ∷ 0 ∷ 0 ∷ 0 ∷ 8 ∷ 0 ∷ [] }
@@ -38,13 +38,8 @@ images =
     }
     ∷ []
 
-abbrev state : Counted → Model
+abbrev pub state : Counted → Model
 state c = after (c .events) fresh
-
--- of every row
-abbrev pub Every : (Counted → Type 0) → List Counted → Type 0
-Every P [] = Unit {0}
-Every P (c ∷ cs) = P c × Every P cs
 
 -- each row's image is that of its state, and whatever load answers to it shows that state
 pub counted-images : Every (λ c. (encode (state c) ≡ c .image) × ((r : Loaded) → Loads (c .image) r → Shows (r .state) (state c))) images
@@ -53,7 +48,3 @@ counted-images = (
   (refl, λ r L. loads-back fresh fresh-consistent refl L),
   ((refl, λ r L. loads-back (after (Create ∷ Create ∷ []) fresh) (always (Create ∷ Create ∷ []) fresh fresh-consistent (omega arith, (omega arith, tt))) refl L), tt),
 )
-
--- THE COUNTED CASES, those of the rules and those of the image, as one fact
-pub counted-all : (map found cases ≡ map (λ c. c .seen) cases) × Every (λ c. (encode (state c) ≡ c .image) × ((r : Loaded) → Loads (c .image) r → Shows (r .state) (state c))) images
-counted-all = (counted, counted-images)

@@ -7,3 +7,4 @@ pub mod Search
 pub mod Tells
 pub mod Sizes
 pub mod Bytes
+pub mod Every

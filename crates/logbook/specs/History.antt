@@ -177,7 +177,7 @@ log-append : (es fs : List Event) → logOf (es ++ fs) ≡ logOf es ++ logOf fs
 log-append [] fs = refl
 log-append (e ∷ es) fs = ap (λ (l : List ℕ). recordOf e ++ l) (log-append es fs) ∙ sym (append-assoc (recordOf e) (logOf es) (logOf fs))
 
-after-append : (es fs : List Event) (m : Model) → after (es ++ fs) m ≡ after fs (after es m)
+pub after-append : (es fs : List Event) (m : Model) → after (es ++ fs) m ≡ after fs (after es m)
 after-append [] fs m = refl
 after-append (e ∷ es) fs m = after-append es fs (next e m)
 

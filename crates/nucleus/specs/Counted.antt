@@ -1,9 +1,10 @@
 -- The counted cases (document 01), as the contract of `State::step` gives them: whatever replies meet it, event by event, they end as the table says.
 use mathlib.Core.Path.{_≡_, refl, sym, ap, subst, _∙_}
-use mathlib.Core.List.{List, [], _∷_, map}
+use mathlib.Core.List.{List, [], _∷_}
 use Prim.Native.Nat.{ℕ, zero, suc, _≤_}
 use native.Mathlib.Omega.{arith}
 use Rattle.lists.specs.Lists.{bit}
+use Rattle.lists.specs.Every.{Every, each, every}
 use Rattle.rules.specs.Model.{Model, lastNumber, thread}
 use Rattle.rules.specs.Rules.{Outcome, outcome, fresh, gave, after}
 use Rattle.rules.specs.Consistent.{belongs, Consistent}
@@ -41,24 +42,11 @@ pub plays-out : {r z : Reply} {es : List Event} (o : Outcome) (p : ℕ) → Meet
 plays-out o p m done = seen-of p m
 plays-out {r} o p m (more {t = t} {e = e} a k) = plays-out (outcome e (o .state)) p (follows e m a) k
 
--- of every case
-abbrev pub Every : (Case → Type 0) → List Case → Type 0
-Every P [] = Unit {0}
-Every P (c ∷ cs) = P c × Every P cs
-
-each : (cs : List Case) → map found cs ≡ map (λ c. c .seen) cs → Every (λ c. found c ≡ c .seen) cs
-each [] e = tt
-each (c ∷ cs) e = (let h : found c ≡ c .seen = cc in h, each cs (let t : map found cs ≡ map (λ c. c .seen) cs = cc in t))
-
-every : (P Q : Case → Type 0) → ((c : Case) → P c → Q c) → (cs : List Case) → Every P cs → Every Q cs
-every P Q f [] k = tt
-every P Q f (c ∷ cs) k = (f c (k .0), every P Q f cs (k .1))
-
 -- THE TABLE, of what the code answers: begun with a consistent state that stands for the case's start, the replies end with what the document says
 pub counted-code : Every (λ c. (r z : Reply) → Meets (begun (c .start)) r → Plays r (c .events) z → shownBy z (c .place) ≡ c .seen) cases
 counted-code =
     every (λ c. found c ≡ c .seen) (λ c. (r z : Reply) → Meets (begun (c .start)) r → Plays r (c .events) z → shownBy z (c .place) ≡ c .seen)
-    (λ c e r z m k. plays-out (begun (c .start)) (c .place) m k ∙ e) cases (each cases counted)
+    (λ c e r z m k. plays-out (begun (c .start)) (c .place) m k ∙ e) cases (each found (λ c. c .seen) cases counted)
 
 -- and there is such a state to begin with: every case starts from a consistent model
 

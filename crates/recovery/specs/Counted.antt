@@ -1,0 +1,44 @@
+-- "LOADS THAT WERE COUNTED" (document 01): every starred case, of the rules, of the image and of the log, in one table that one computed fact covers.
+use Prim.Native.Nat.{ℕ}
+use mathlib.Core.Path.{_≡_, refl}
+use mathlib.Core.List.{List, _++_, map}
+use Rattle.lists.specs.Lists.{tally}
+use Rattle.rules.specs.Model.{allPlaces}
+use Rattle.rules.specs.Rules.{firstFree}
+use Rattle.rules.specs.Counted.{Seen, Case, found, cases}
+use Rattle.journal.specs.Format.{lengthOf, eventOf, readFrom, readAt}
+use Rattle.image.specs.Format.{encode}
+use Rattle.image.specs.Counted.{Counted as Pictured, state, images}
+use Rattle.logbook.specs.Log.{parsed}
+use Rattle.logbook.specs.Counted.{Row, Counted as Logged, logs, found as replayed}
+
+-- a case: events that come, a history whose image is looked at, or a log that is replayed
+pub data Counted : Type 0 where
+  events : Case → Counted
+  image : Pictured → Counted
+  log : Logged → Counted
+
+-- what is seen of it
+pub data Sight : Type 0 where
+  seen : Seen → Sight
+  bytes : List ℕ → Sight
+  row : Row → Sight
+
+-- what the rules give
+abbrev pub computed : Counted → Sight
+computed (events c) = seen (found c)
+computed (image c) = bytes (encode (state c))
+computed (log c) = row (replayed c)
+
+-- what the document says
+abbrev pub stated : Counted → Sight
+stated (events c) = seen (c .seen)
+stated (image c) = bytes (c .image)
+stated (log c) = row (c .row)
+
+unfoldable pub table : List Counted
+table = map events cases ++ (map image images ++ map log logs)
+
+pub counted : map computed table ≡ map stated table
+unfolding table cases images logs encode allPlaces tally firstFree parsed lengthOf eventOf readFrom readAt
+counted = refl

@@ -1,0 +1,1 @@
+// What comes back after the power has failed, in specs/: an image and a log cut at any byte give the rules' state for the history up to the last whole record; and the counted cases as one table. No code.
