@@ -15,6 +15,7 @@ fn main() {
     waits();
     sticks();
     fills();
+    logs();
 }
 
 // What an event answered, and the thread at p then.
@@ -128,5 +129,30 @@ fn fills() {
     let s = line(b"create with 32 live", s.create(), 31);
     console::text(b"    live: ");
     console::number(s.live() as u64);
+    console::text(b"\n");
+}
+
+// Two creates, a receive and a send; the same cut inside the send; and a kind that is not known.
+fn logs() {
+    let log = [1u8, 1, 3, 255, 2, 0, 7, 0, 0, 0];
+    replayed(b"log 01 01 03 ff 02 00 07 00 00 00", &log);
+    replayed(b"cut to 9 bytes", &log[..9]);
+    let unknown = [9u8];
+    replayed(b"log 09", &unknown);
+}
+
+// What a log comes to, from fresh.
+fn replayed(what: &[u8], log: &[u8]) {
+    let r = logbook::replay(State::fresh(), log);
+    let choice = r.choice;
+    console::text(what);
+    console::text(b": ");
+    console::number(r.code as u64);
+    console::text(b", records ");
+    console::number(r.records as u64);
+    console::text(b", bytes ");
+    console::number(r.bytes as u64);
+    console::text(b", ");
+    console::choice(choice);
     console::text(b"\n");
 }
