@@ -1,0 +1,141 @@
+// Who does what: from the state and a throw of the dice, the next event, as the drivers and the radio would make it.
+use nucleus::State;
+use rules::Choice;
+use rules::Event;
+use rules::Number;
+use rules::Place;
+
+// The radio is the first thread.
+const RADIO: u8 = 0;
+
+// A number that nobody has, for a driver who takes the wrong one.
+const WRONG: u8 = 200;
+
+const PLACES: u8 = lines::PLACES as u8;
+
+// In so many turns there are about one slice end, one tick, and one driver who signs on or off.
+const TURNS: u32 = 32;
+
+// A driver who signs off is picked among so many places. At an empty one a driver signs on, so about half of them stay filled.
+const PICKED: u32 = 24;
+
+// The next throw of the dice, 0 to 65,536. The same seed gives the same shift.
+pub fn throw(dice: u32) -> u32 {
+    (dice % 65537 * 75 + 74) % 65537
+}
+
+// The next event. `load` is the number of the load that is sent next.
+pub fn next(s: State, dice: u32, load: u32) -> Event {
+    let c = s.choice();
+    let n = c.runs();
+    if n.0 == rules::NOBODY {
+        return idle(c);
+    }
+    let d = dice % TURNS;
+    if d == 0 {
+        return Event::SliceEnd;
+    }
+    if d == 1 {
+        return Event::Tick;
+    }
+    if d == 2 {
+        return signs(s, dice / TURNS % PICKED);
+    }
+    acts(s, n, dice / TURNS, load)
+}
+
+// Nobody runs: the clock goes on where somebody waits for it; otherwise a driver signs on, since only one more could wake the others.
+fn idle(c: Choice) -> Event {
+    match c {
+        Choice::Run(_) => Event::SliceEnd,
+        Choice::Halt => Event::Create,
+        Choice::Wait => Event::Tick,
+        Choice::Stuck => Event::Create,
+    }
+}
+
+// The driver at a place signs off, waiting or not; at an empty place one signs on. The radio stays.
+fn signs(s: State, p: u32) -> Event {
+    let t = s.thread(Place((p % 256) as u8));
+    let n = t.number;
+    if n.0 == rules::NOBODY {
+        return Event::Create;
+    }
+    if n.0 == RADIO {
+        return Event::SliceEnd;
+    }
+    Event::End { thread: n }
+}
+
+// What the running thread does.
+fn acts(s: State, n: Number, dice: u32, load: u32) -> Event {
+    if n.0 == RADIO {
+        return radio(s, dice);
+    }
+    driver(dice, load)
+}
+
+// A driver rests now and then, or takes the wrong number; else it sends its load to the radio.
+fn driver(dice: u32, load: u32) -> Event {
+    let d = dice % 8;
+    if d == 0 {
+        return Event::WaitClock;
+    }
+    if d == 1 {
+        return Event::Send {
+            to: Number(WRONG),
+            word: load,
+        };
+    }
+    Event::Send {
+        to: Number(RADIO),
+        word: load,
+    }
+}
+
+// The radio rests, takes a load, or answers one. Where none is in its inbox it does not wait for one while a load that it took has no answer: that driver
+// might be the last who could send.
+fn radio(s: State, dice: u32) -> Event {
+    let d = dice % 4;
+    if d == 0 {
+        return Event::WaitClock;
+    }
+    let from = (dice / 4 % 256) as u8;
+    let awaiting = one_that(s, rules::AWAITING, from);
+    let sending = one_that(s, rules::SENDING, from);
+    if awaiting.0 == rules::NOBODY {
+        return Event::Receive {
+            from: Number(rules::NOBODY),
+        };
+    }
+    answers(awaiting, sending, dice)
+}
+
+// Somebody awaits the radio's answer, and it gives it, or takes a load more. The answer's word is the throw.
+fn answers(awaiting: Number, sending: Number, dice: u32) -> Event {
+    if dice % 4 == 1 {
+        if sending.0 != rules::NOBODY {
+            return Event::Receive {
+                from: Number(rules::NOBODY),
+            };
+        }
+    }
+    Event::Reply {
+        to: awaiting,
+        word: dice,
+    }
+}
+
+// The first thread, from a place on and round, of this standing; nobody where there is none.
+fn one_that(s: State, standing: u8, from: u8) -> Number {
+    let mut i: u8 = 0;
+    while i < PLACES {
+        let t = s.thread(Place((from % PLACES + i) % PLACES));
+        if t.standing == standing {
+            let n = t.number;
+            return n;
+        }
+        i += 1;
+    }
+    Number(rules::NOBODY)
+}

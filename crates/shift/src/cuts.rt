@@ -1,0 +1,125 @@
+// The power fails: the log is cut at each of its bytes, the image loaded and the cut log replayed, and what comes back is compared with what was there.
+use super::book;
+use nucleus::State;
+
+// Replay's code where the last record is cut short.
+const CUT_SHORT: u8 = 12;
+
+// What was found over all cuts: how many there were, and how many inside a record; how many brought the state back, with the right counts; the loads
+// that waited then, and those that stood in their place again with their word; and the first cut that failed.
+pub struct Found {
+    pub cuts: u32,
+    pub halves: u32,
+    pub good: u32,
+    pub waited: u32,
+    pub back: u32,
+    pub failed: usize,
+}
+
+fn nothing() -> Found {
+    Found {
+        cuts: 0,
+        halves: 0,
+        good: 0,
+        waited: 0,
+        back: 0,
+        failed: 0,
+    }
+}
+
+// The log cut at every byte, 0 to its length.
+pub fn all(image: &[u8], log: &[u8], marks: &[usize], kept: &[u8], loads: &[u64]) -> Found {
+    let mut f = nothing();
+    let mut i = 0;
+    let mut k = 0;
+    while k < log.len() {
+        i = whole_at(marks, i, k);
+        f = cut(f, image, book::front(log, k), marks, kept, loads, i);
+        k += 1;
+    }
+    i = whole_at(marks, i, k);
+    cut(f, image, log, marks, kept, loads, i)
+}
+
+// How many records are whole before a cut, from those before the cut a byte earlier: a record has a byte at least.
+fn whole_at(marks: &[usize], i: usize, k: usize) -> usize {
+    if i >= book::EVENTS {
+        return i;
+    }
+    if book::mark(marks, i + 1) <= k {
+        return i + 1;
+    }
+    i
+}
+
+// The image is loaded and a cut log replayed, of which i records are whole.
+fn cut(
+    f: Found,
+    image: &[u8],
+    log: &[u8],
+    marks: &[usize],
+    kept: &[u8],
+    loads: &[u64],
+    i: usize,
+) -> Found {
+    let at = book::mark(marks, i);
+    let from = image::load(image);
+    let s = from.state;
+    let r = logbook::replay(s, log);
+    let t = r.state;
+    let right = told(r.code, r.records, r.bytes, i, at, log.len());
+    let good = right & book::same(kept, i, t);
+    let g = judged(f, good, log.len(), at);
+    compared(g, t, loads, i)
+}
+
+// Does replay tell the records and bytes that were whole, and that it met half a record, if it did?
+fn told(code: u8, records: u32, bytes: u32, i: usize, at: usize, k: usize) -> bool {
+    if records as usize != i {
+        return false;
+    }
+    if bytes as usize != at {
+        return false;
+    }
+    if at == k {
+        return code == 0;
+    }
+    code == CUT_SHORT
+}
+
+fn judged(mut f: Found, good: bool, k: usize, at: usize) -> Found {
+    f.cuts = book::more(f.cuts);
+    if at != k {
+        f.halves = book::more(f.halves);
+    }
+    if good {
+        f.good = book::more(f.good);
+        return f;
+    }
+    if f.cuts == book::more(f.good) {
+        f.failed = k;
+    }
+    f
+}
+
+// Place by place: the loads that waited after event i, and those that wait there again.
+fn compared(from: Found, s: State, loads: &[u64], i: usize) -> Found {
+    let mut f = from;
+    let mut p = 0;
+    while p < lines::PLACES {
+        f = load(f, book::load_then(loads, i, p), book::load_at(s, p));
+        p += 1;
+    }
+    f
+}
+
+fn load(mut f: Found, then: u64, now: u64) -> Found {
+    if then == 0 {
+        return f;
+    }
+    f.waited = book::more(f.waited);
+    if then == now {
+        f.back = book::more(f.back);
+    }
+    f
+}

@@ -1,0 +1,164 @@
+// The shift itself: event after event, first without a log, and then recorded; and what is counted on the way.
+use super::book;
+use super::crew;
+use nucleus::State;
+use rules::Event;
+
+pub const SEED: u32 = 2021;
+
+// Kinds of events (document 01, "The eight events").
+const SEND: u8 = 2;
+
+const REPLY: u8 = 4;
+
+const END: u8 = 5;
+
+// With the radio they sign on first.
+pub const DRIVERS: usize = 12;
+
+// The events before the image, those included.
+pub const BEFORE: usize = 100;
+
+// Loads sent, answered, and gone because their driver signed off while they waited; and events that were refused.
+pub struct Counts {
+    pub sent: u32,
+    pub answered: u32,
+    pub withdrawn: u32,
+    pub refused: u32,
+}
+
+// The shift after an event: the state, the dice, the counts, and where the next record goes.
+pub struct Shift {
+    pub state: State,
+    pub dice: u32,
+    pub counts: Counts,
+    pub position: usize,
+}
+
+// What an event adds to the counts. `gone` is how many loads fewer wait after it.
+fn counted(mut c: Counts, kind: u8, code: u8, gone: u32) -> Counts {
+    if code != 0 {
+        c.refused = book::more(c.refused);
+        return c;
+    }
+    if kind == SEND {
+        c.sent = book::more(c.sent);
+        return c;
+    }
+    if kind == REPLY {
+        c.answered = book::more(c.answered);
+        return c;
+    }
+    if kind == END {
+        c.withdrawn = std::num::wrapping_add_u32(c.withdrawn, gone);
+        return c;
+    }
+    c
+}
+
+// How many loads fewer wait.
+fn fewer(was: State, now: State) -> u32 {
+    std::num::wrapping_sub_u32(book::waiting(was), book::waiting(now))
+}
+
+fn first() -> Shift {
+    let s = State::fresh();
+    let c = Counts {
+        sent: 0,
+        answered: 0,
+        withdrawn: 0,
+        refused: 0,
+    };
+    Shift {
+        state: s,
+        dice: crew::throw(SEED),
+        counts: c,
+        position: 0,
+    }
+}
+
+// The crew signs on.
+fn crewed() -> Shift {
+    let mut s = first();
+    let mut i = 0;
+    while i <= DRIVERS {
+        s = joined(s);
+        i += 1;
+    }
+    s
+}
+
+fn joined(mut s: Shift) -> Shift {
+    let r = s.state.create();
+    let t = r.state;
+    s.state = t;
+    s
+}
+
+// The shift up to the image.
+pub fn morning() -> Shift {
+    let mut s = crewed();
+    let mut i = DRIVERS + 1;
+    while i < BEFORE {
+        s = unrecorded(s);
+        i += 1;
+    }
+    s
+}
+
+// What happens next.
+fn due(s: Shift) -> Event {
+    let t = s.state;
+    let c = s.counts;
+    crew::next(t, s.dice, book::more(c.sent))
+}
+
+// The shift after an event that left a state and a code.
+fn after(s: Shift, e: Event, now: State, code: u8, position: usize) -> Shift {
+    let was = s.state;
+    let c = s.counts;
+    let counts = counted(c, e.kind(), code, fewer(was, now));
+    Shift {
+        state: now,
+        dice: crew::throw(s.dice),
+        counts: counts,
+        position: position,
+    }
+}
+
+// An event without a log.
+fn unrecorded(s: Shift) -> Shift {
+    let e = due(s);
+    let was = s.state;
+    let r = was.step(e);
+    let now = r.state;
+    after(s, e, now, r.code, s.position)
+}
+
+// An event, recorded.
+fn recorded(s: Shift, log: &mut [u8]) -> Shift {
+    let e = due(s);
+    let was = s.state;
+    let r = logbook::record(was, log, s.position, e);
+    let now = r.state;
+    after(s, e, now, r.code, r.position)
+}
+
+// The rest of the shift is recorded, and what was there after each event is kept.
+pub fn rest(
+    from: Shift,
+    log: &mut [u8],
+    marks: &mut [usize],
+    kept: &mut [u8],
+    loads: &mut [u64],
+) -> Shift {
+    book::keep(from.state, from.position, 0, marks, kept, loads);
+    let mut s = from;
+    let mut i = 0;
+    while i < book::EVENTS {
+        s = recorded(s, log);
+        i += 1;
+        book::keep(s.state, s.position, i, marks, kept, loads);
+    }
+    s
+}

@@ -1,0 +1,29 @@
+// Plays a shift of drivers and radio, fails the power at every byte of its log, and says whether each waiting load came back to its place with its word.
+mod book;
+mod crew;
+mod cuts;
+mod day;
+mod report;
+
+// The log's buffer: a record has 6 bytes at most.
+const LOG: usize = 6 * book::EVENTS;
+
+fn main() {
+    let mut image = [0u8; image::save::LONGEST];
+    let mut log = [0u8; LOG];
+    let mut marks = [0usize; book::MARKS];
+    let mut kept = [0u8; book::KEPT];
+    let mut loads = [0u64; book::LOADS];
+    let morning = day::morning();
+    let s = morning.state;
+    let saved = image::save::save(s, &mut image);
+    let length = saved.length;
+    let evening = day::rest(morning, &mut log, &mut marks, &mut kept, &mut loads);
+    let end = evening.position;
+    report::played(evening, length, end);
+    let image = book::front(&image, length);
+    let log = book::front(&log, end);
+    let found = cuts::all(image, log, &marks, &kept, &loads);
+    report::failed(found, end);
+    report::half(image, log);
+}

@@ -1,0 +1,109 @@
+// The report. Each number in it was counted on the way.
+use super::book;
+use super::cuts::Found;
+use super::day;
+use super::day::Counts;
+use super::day::Shift;
+use nucleus::State;
+use rules::Place;
+
+// A number, and the text behind it.
+fn say(n: u64, behind: &[u8]) {
+    console::number(n);
+    console::text(behind);
+}
+
+// The shift, with the lengths of image and log.
+pub fn played(s: Shift, image: usize, log: usize) {
+    let c = s.counts;
+    let t = s.state;
+    console::text(b"A shift from seed ");
+    say(day::SEED as u64, b": the radio and ");
+    say(day::DRIVERS as u64, b" drivers sign on.\n");
+    counted(c, book::waiting(t));
+    say(t.live() as u64, b" threads live at the end.\n\n");
+    console::text(b"Saved after event ");
+    say(day::BEFORE as u64, b": an image of ");
+    say(image as u64, b" bytes.\nRecorded since: ");
+    say(book::EVENTS as u64, b" events, a log of ");
+    say(log as u64, b" bytes.\n\n");
+}
+
+fn counted(c: Counts, waiting: u32) {
+    say(c.sent as u64, b" loads are sent: ");
+    say(c.answered as u64, b" answered, ");
+    say(c.withdrawn as u64, b" gone with a driver who signed off, ");
+    say(waiting as u64, b" waiting.\n");
+    say(c.refused as u64, b" events are refused. ");
+}
+
+// What the failures of the power left.
+pub fn failed(f: Found, log: usize) {
+    console::text(b"The power may fail at any byte. The log is cut at each, 0 to ");
+    say(log as u64, b": ");
+    say(f.cuts as u64, b" cuts,\n");
+    say(f.halves as u64, b" of them inside a record. Each time ");
+    console::text(b"the image is loaded and the log replayed.\n");
+    console::text(b"The state after the last whole record is back, to the byte: ");
+    say(f.good as u64, b" of ");
+    say(f.cuts as u64, b" times.\n");
+    console::text(b"Waiting loads in their place again, with their word: ");
+    say(f.back as u64, b" of ");
+    say(f.waited as u64, b".\n");
+    verdict(f);
+}
+
+fn verdict(f: Found) {
+    if f.good != f.cuts {
+        console::text(b"FAILED, first at byte ");
+        say(f.failed as u64, b".\n");
+        return;
+    }
+    if f.back != f.waited {
+        console::text(b"FAILED: a load is lost.\n");
+        return;
+    }
+    console::text(b"No load is lost, and none is mixed up.\n");
+}
+
+// The cut in the middle of the log, with the loads that it brings back.
+pub fn half(image: &[u8], log: &[u8]) {
+    let n = log.len() / 2;
+    let from = image::load(image);
+    let s = from.state;
+    let r = logbook::replay(s, book::front(log, n));
+    let t = r.state;
+    console::text(b"\nFor one, at byte ");
+    say(n as u64, b", behind ");
+    say(r.records as u64, b" whole records (");
+    say(r.bytes as u64, b" bytes), these loads wait:\n");
+    waiting(t);
+}
+
+// The waiting loads of a state, place by place.
+fn waiting(s: State) {
+    let mut p: u8 = 0;
+    while p < lines::PLACES as u8 {
+        load(s, Place(p));
+        p += 1;
+    }
+}
+
+fn load(s: State, p: Place) {
+    let t = s.thread(p);
+    if t.standing == rules::SENDING {
+        driver(p, t.number.0, t.word);
+        console::text(b"in the radio's inbox\n");
+    }
+    if t.standing == rules::AWAITING {
+        driver(p, t.number.0, t.word);
+        console::text(b"taken by the radio and not answered yet\n");
+    }
+}
+
+fn driver(p: Place, n: u8, word: u32) {
+    console::text(b"    place ");
+    say(p.0 as u64, b", driver ");
+    say(n as u64, b": load ");
+    say(word as u64, b", ");
+}
