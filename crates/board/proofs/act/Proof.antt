@@ -1,0 +1,67 @@
+-- `act` meets its contract: the event's refusal, 7, or the new image.
+use Rattle.nucleus.specs.View.{view}
+use Rattle.board.specs.Answers.{save-short, act-refused, act-short, act-done}
+use borrow.Author.Needs.{needs}
+use Rattle.board.proofs.act.Statement.{statement}
+use Rattle.board.proofs.act.Tie as tie
+
+act-requires : tie.Need-act-requires
+act-requires c κs = search needs
+
+choose-requires : tie.Need-choose-requires
+choose-requires c κs = search needs
+
+decline-requires : tie.Need-decline-requires
+decline-requires c κs = search needs
+
+returns : tie.Need-returns
+returns c = act-refused (view (c .before .before .before .before .before .before .args .s)) _ (c .before .before .before .before .before .before .args .out .now) (c .before .before .before .before .act .ensures) (c .before .before .if1 .taken) (c .before .choose .ensures) (c .decline .ensures)
+
+keep-requires : tie.Need-keep-requires
+keep-requires c κs = search needs
+
+choose-requires-2 : tie.Need-choose-requires-2
+choose-requires-2 c κs = search needs
+
+decline-requires-2 : tie.Need-decline-requires-2
+decline-requires-2 c κs = search needs
+
+same-length : tie.Need-same-length
+same-length c = search needs
+
+returns-2 : tie.Need-returns-2
+returns-2 c = act-short (view (c .before .before .before .before .before .before .before .before .before .before .before .before .before .args .s)) _ (c .before .before .before .before .before .before .before .before .before .before .before .before .before .args .out .now) (c .before .before .before .before .before .before .before .before .before .before .before .act .ensures) (c .before .before .before .before .before .before .before .before .before .if1 .left) (c .before .before .before .before .before .before .keep .ensures) (c .before .before .if2 .taken) (c .before .choose2 .ensures) (c .decline2 .ensures)
+
+choice-code-requires : tie.Need-choice-code-requires
+choice-code-requires c κs = search needs
+
+next-of-requires : tie.Need-next-of-requires
+next-of-requires c κs = search needs
+
+narrow-requires : tie.Need-narrow-requires
+narrow-requires c κs = save-short (c .before .before .before .before .before .before .before .before .before .before .before .act .ensures .state) (c .before .before .before .before .before .before .keep .ensures)
+
+same-length-2 : tie.Need-same-length-2
+same-length-2 c = search needs
+
+returns-3 : tie.Need-returns-3
+returns-3 c = act-done (view (c .before .before .before .before .before .before .before .before .before .before .before .before .before .before .args .s)) _ (c .before .before .before .before .before .before .before .before .before .before .before .before .before .before .args .out .now) (c .before .before .before .before .before .before .before .before .before .before .before .before .act .ensures) (c .before .before .before .before .before .before .before .before .before .before .if1 .left) (c .before .before .before .before .before .before .before .keep .ensures) (c .before .before .before .if2 .left) (c .before .before .choice-code .ensures) (c .before .next-of .ensures) (c .narrow .ensures)
+
+pub act-spec : {M : Type 1} → statement M
+act-spec =
+    tie.close
+    (tie.spec
+    act-requires
+    choose-requires
+    decline-requires
+    returns
+    keep-requires
+    choose-requires-2
+    decline-requires-2
+    same-length
+    returns-2
+    choice-code-requires
+    next-of-requires
+    narrow-requires
+    same-length-2
+    returns-3)

@@ -1,0 +1,4 @@
+pub mod Promise
+pub mod Answers
+pub mod Once
+pub mod Runs

@@ -1,0 +1,201 @@
+-- A BOARD THAT RUNS: from the fresh image, any records handed over one after the other, each with the image that the last accepted call gave and a buffer with
+-- room. The images are those of the rules' states for that history, and codes, choices and numbers are the rules'. So the C side need believe nothing else.
+use mathlib.Core.Path.{_≡_, refl, sym, ap, ap₂, subst, _∙_}
+use mathlib.Core.Logic.{_≢_}
+use mathlib.Core.List.{List, [], _∷_, _++_}
+use mathlib.Core.Bool.{true, false, cond}
+use Prim.Native.Nat.{ℕ, _≤_, _<_}
+use native.Mathlib.Omega.{arith}
+use borrow.Author.Tests.{eqb-true, eqb-false, eq-eqb, ne-eqb, le-ltb}
+use lib.Dec.{eqb, ltb}
+use lib.ListN.{length, take, drop}
+use lib.Seq.{take-at}
+use Rattle.lists.specs.Laws.{by-test}
+use Rattle.rules.specs.Values.{nobody}
+use Rattle.rules.specs.Model.{Model}
+use Rattle.rules.specs.Rules.{Outcome, outcome, full, refusal, given, fresh, next, after, choice}
+use Rattle.rules.specs.Consistent.{Fits, Consistent}
+use Rattle.rules.specs.declared.Event.{Event}
+use Rattle.rules.specs.declared.Event.the-variants.{Create, Send, Receive, Reply, End, WaitClock, SliceEnd, Tick}
+use Rattle.order.specs.Keeps.{keeps, fresh-consistent}
+use Rattle.journal.specs.Format.{readAt}
+use Rattle.journal.specs.Laws.{Bytes, read-whole}
+use Rattle.journal.specs.declared.Read.{Read}
+use Rattle.journal.specs.declared.Read.the-variants.{Record, AtEnd, CutShort, UnknownKind, PastEnd}
+use Rattle.image.specs.Format.{encode}
+use Rattle.image.specs.Longest.{longestImage, longest}
+use Rattle.image.specs.Accepts.{refuses-not}
+use Rattle.image.specs.Injective.{encode-injective}
+use Rattle.logbook.specs.History.{after-append}
+use Rattle.board.specs.Promise.{choiceCode, runs, placed, declined, acted, badCode, taken, stepOn, Boards, unloaded, stepped, freshOn}
+use Rattle.board.specs.declared.Told.{Told}
+
+-- ---- what the rules say of any bytes that are handed over as a record
+-- the event of exactly one record; else none
+abbrev pub heard : Read → ℕ → List Event
+heard (Record e n) size = cond (eqb n size) (e ∷ []) []
+heard AtEnd size = []
+heard CutShort size = []
+heard UnknownKind size = []
+heard PastEnd size = []
+
+abbrev pub eventsOf : List ℕ → List Event
+eventsOf rec = heard (readAt rec 0) (length rec)
+
+-- a history: the events of all that was handed over, also of those that the rules refuse
+abbrev pub history : List (List ℕ) → List Event
+history [] = []
+history (rec ∷ recs) = eventsOf rec ++ history recs
+
+-- code, choice and number of an outcome, and the length of the new image
+abbrev pub told : Outcome → Told
+told o = record { code = o .code; choice = choiceCode (o .choice); next = runs (o .choice); number = o .number; length = cond (eqb (o .code) 0) (length (encode (o .state))) 0 }
+
+abbrev pub saidOf : Model → Read → ℕ → Told
+saidOf m (Record e n) size = cond (eqb n size) (told (outcome e m)) (declined (badCode (Record e n)) (choice m))
+saidOf m AtEnd size = declined (badCode AtEnd) (choice m)
+saidOf m CutShort size = declined (badCode CutShort) (choice m)
+saidOf m UnknownKind size = declined (badCode UnknownKind) (choice m)
+saidOf m PastEnd size = declined (badCode PastEnd) (choice m)
+
+abbrev pub said : Model → List ℕ → Told
+said m rec = saidOf m (readAt rec 0) (length rec)
+
+-- what is said to one after the other
+abbrev pub allSaid : Model → List (List ℕ) → List Told
+allSaid m [] = []
+allSaid m (rec ∷ recs) = said m rec ∷ allSaid (after (eventsOf rec) m) recs
+
+-- ---- the calls
+-- From an image on, these records get these answers, and this is the last image. A refused call gives no image: the next has the one before.
+pub data Calls : List ℕ → List (List ℕ) → List Told → List ℕ → Type 0 where
+  over : {image : List ℕ} → Calls image [] [] image
+  accepted : {image rec out after last : List ℕ} {recs : List (List ℕ)} {t : Told} {ts : List Told} → Bytes rec → longestImage ≤ length out → Boards image rec out (t, after) → t .code ≡ 0
+      → Calls (take (t .length) after) recs ts last → Calls image (rec ∷ recs) (t ∷ ts) last
+  refused : {image rec out after last : List ℕ} {recs : List (List ℕ)} {t : Told} {ts : List Told} → Bytes rec → longestImage ≤ length out → Boards image rec out (t, after) → t .code ≢ 0
+      → Calls image recs ts last → Calls image (rec ∷ recs) (t ∷ ts) last
+
+-- ---- one call
+-- m became n, and this was said: an accepted call has the image of n in front, a refused one has changed nothing
+record Step (m n : Model) (says : Told) (out : List ℕ) (t : Told × List ℕ) : Type 0 where
+  same : t .0 ≡ says
+  image : t .0 .code ≡ 0 → take (t .0 .length) (t .1) ≡ encode n
+  still : t .0 .code ≢ 0 → (n ≡ m) × (t .1 ≡ out)
+
+-- what a refused event leaves and says
+record Still (m : Model) (o : Outcome) : Type 0 where
+  state : o .state ≡ m
+  choice : o .choice ≡ choice m
+  number : o .number ≡ nobody
+
+act-step : (m : Model) (o : Outcome) (out : List ℕ) → Consistent (o .state) → (o .code ≢ 0 → Still m o) → longestImage ≤ length out → Step m (o .state) (told o) out (acted m o out)
+unfolding acted
+act-step m o out C f h =
+    let i : List ℕ = encode (o .state) in
+    let l = longest (o .state) C in
+    by-test (eqb (o .code) 0)
+    (λ t.
+    let z = eqb-true (o .code) 0 t in
+    rw (t, le-ltb (length out) (length i) (omega arith)) (record {
+      same = rw z refl;
+      image = λ w. take-at i (drop (length i) out) (length i) refl;
+      still = λ w. absurd (w refl);
+    }))
+    (λ t.
+    let z = eqb-false (o .code) 0 t in
+    let s = f z in
+    rw t (record { same = rw (s .choice, s .number) refl; image = λ w. absurd (z w); still = λ w. (s .state, refl) }))
+
+given-refused : (e : Event) (m : Model) → refusal e m ≢ 0 → given e m ≡ nobody
+given-refused Create m h = by-test (full m) (λ t. rw t refl) (λ t. absurd ((rw t at h) refl))
+given-refused (Send d w) m h = refl
+given-refused (Receive n) m h = refl
+given-refused (Reply t w) m h = refl
+given-refused (End t) m h = refl
+given-refused WaitClock m h = refl
+given-refused SliceEnd m h = refl
+given-refused Tick m h = refl
+
+event-still : (e : Event) (m : Model) → refusal e m ≢ 0 → Still m (outcome e m)
+event-still e m h = let s : next e m ≡ m = rw (ne-eqb (refusal e m) 0 h) refl in record { state = s; choice = ap choice s; number = given-refused e m h }
+
+-- no event: nothing has changed, and 12 or 13 is said
+bad-step : (m : Model) (out : List ℕ) {c : ℕ} → c ≢ 0 → Step m m (declined c (choice m)) out (declined c (choice m), out)
+bad-step m out h = record { same = refl; image = λ w. absurd (h w); still = λ w. (refl, refl) }
+
+read-step : (m : Model) (r : Read) (size : ℕ) (out : List ℕ) → Consistent m → ((e : Event) (n : ℕ) → r ≡ Record e n → Fits e) → longestImage ≤ length out
+    → Step m (after (heard r size) m) (saidOf m r size) out (taken m r size out)
+read-step m (Record e n) size out C f h =
+    by-test (eqb n size)
+    (λ t. rw t (act-step m (outcome e m) out (keeps e m C (f e n refl)) (event-still e m) h))
+    (λ t. rw t (bad-step m out (λ w. omega arith)))
+read-step m AtEnd size out C f h = bad-step m out (λ w. omega arith)
+read-step m CutShort size out C f h = bad-step m out (λ w. omega arith)
+read-step m UnknownKind size out C f h = bad-step m out (λ w. omega arith)
+read-step m PastEnd size out C f h = bad-step m out (λ w. omega arith)
+
+-- an image that stands for m takes a record
+step-on : (m : Model) {image rec out : List ℕ} {t : Told × List ℕ} → Consistent m → encode m ≡ image → Bytes rec → longestImage ≤ length out → Boards image rec out t
+    → Step m (after (eventsOf rec) m) (said m rec) out t
+step-on m C e b h (unloaded c R g) = absurd (refuses-not R (m, C, e))
+step-on m {rec = rec} {out = out} {t = t} C e b h (stepped n D f g) =
+    let k : n ≡ m = encode-injective n m D C (f ∙ sym e) in
+    let w : t ≡ stepOn m rec out = g ∙ ap (λ (m : Model). stepOn m rec out) k in
+    subst (Step m (after (eventsOf rec) m) (said m rec) out) (sym w) (read-step m (readAt rec 0) (length rec) out C (λ e n q. read-whole rec 0 e n b q .fits) h)
+
+heard-consistent : (m : Model) (r : Read) (size : ℕ) → Consistent m → ((e : Event) (n : ℕ) → r ≡ Record e n → Fits e) → Consistent (after (heard r size) m)
+heard-consistent m (Record e n) size C f = by-test (eqb n size) (λ t. rw t (keeps e m C (f e n refl))) (λ t. rw t C)
+heard-consistent m AtEnd size C f = C
+heard-consistent m CutShort size C f = C
+heard-consistent m UnknownKind size C f = C
+heard-consistent m PastEnd size C f = C
+
+-- ---- all of them
+pub record Ran (m : Model) (recs : List (List ℕ)) (ts : List Told) (last : List ℕ) : Type 0 where
+  pub image : last ≡ encode (after (history recs) m)
+  pub answers : ts ≡ allSaid m recs
+
+ran : {image last : List ℕ} {recs : List (List ℕ)} {ts : List Told} (m : Model) → Consistent m → encode m ≡ image → Calls image recs ts last → Ran m recs ts last
+ran m C e over = record { image = sym e; answers = refl }
+ran m C e (accepted {rec = rec} {recs = recs} b h k z rest) =
+    let s = step-on m C e b h k in
+    let n : Model = after (eventsOf rec) m in
+    let r = ran n (heard-consistent m (readAt rec 0) (length rec) C (λ e n q. read-whole rec 0 e n b q .fits)) (sym (s .image z)) rest in
+    record { image = r .image ∙ ap encode (sym (after-append (eventsOf rec) (history recs) m)); answers = ap₂ (λ (t : Told) (ts : List Told). t ∷ ts) (s .same) (r .answers) }
+ran m C e (refused {rec = rec} {recs = recs} b h k z rest) =
+    let s = step-on m C e b h k in
+    let q = s .still z .0 in
+    let r = ran m C e rest in
+    record {
+      image = r .image ∙ ap (λ (x : Model). encode (after (history recs) x)) (sym q) ∙ ap encode (sym (after-append (eventsOf rec) (history recs) m));
+      answers = ap₂ (λ (t : Told) (ts : List Told). t ∷ ts) (s .same) (r .answers ∙ ap (λ (x : Model). allSaid x recs) (sym q));
+    }
+
+-- ---- a refused call changes nothing, whatever the buffer
+acted-still : (m : Model) (o : Outcome) (out : List ℕ) → acted m o out .0 .code ≢ 0 → acted m o out .1 ≡ out
+unfolding acted
+acted-still m o out h =
+    by-test (eqb (o .code) 0)
+    (λ t. by-test (ltb (length out) (length (encode (o .state)))) (λ u. rw (t, u) refl) (λ u. absurd ((rw (t, u) at h) refl)))
+    (λ t. rw t refl)
+
+taken-still : (m : Model) (r : Read) (size : ℕ) (out : List ℕ) → taken m r size out .0 .code ≢ 0 → taken m r size out .1 ≡ out
+taken-still m (Record e n) size out h = by-test (eqb n size) (λ t. rw t (acted-still m (outcome e m) out (rw t at h))) (λ t. rw t refl)
+taken-still m AtEnd size out h = refl
+taken-still m CutShort size out h = refl
+taken-still m UnknownKind size out h = refl
+taken-still m PastEnd size out h = refl
+
+pub refused-still : {image rec out : List ℕ} {t : Told × List ℕ} → Boards image rec out t → t .0 .code ≢ 0 → t .1 ≡ out
+refused-still (unloaded c R g) z = ap (λ (x : Told × List ℕ). x .1) g
+refused-still {rec = rec} {out = out} (stepped m C e g) z = ap (λ (x : Told × List ℕ). x .1) g ∙ taken-still m (readAt rec 0) (length rec) out (rw g at z)
+
+-- ---- from the fresh image
+fresh-front : (out : List ℕ) {a : List ℕ} {c n : ℕ} → length (encode fresh) ≤ length out → (c, n, a) ≡ freshOn out → encode fresh ≡ take n a
+fresh-front out {a} {c} {n} h e =
+    let i : List ℕ = encode fresh in
+    let w : _≡_ {A = ℕ × ℕ × List ℕ} (c, n, a) (0, length i, i ++ drop (length i) out) = rw (le-ltb (length out) (length i) h) at e in
+    sym (take-at i (drop (length i) out) (length i) refl) ∙ ap (λ (x : ℕ × ℕ × List ℕ). take (x .1) (x .2)) (sym w)
+
+pub board-runs : (out : List ℕ) {a last : List ℕ} {c n : ℕ} {recs : List (List ℕ)} {ts : List Told} → longestImage ≤ length out → (c, n, a) ≡ freshOn out → Calls (take n a) recs ts last → Ran fresh recs ts last
+board-runs out h e k = let l = longest fresh fresh-consistent in ran fresh fresh-consistent (fresh-front out (omega arith) e) k

@@ -1,0 +1,276 @@
+// The board (document 01): the board's start code is C. Each entry takes an image and gives one back; whatever the bytes, every result and every byte of the
+// output buffer is settled. include/rumqatiss.h says the same to those who write C.
+ghost use mathlib.Core.Path.{_≡_};
+ghost use Prim.Native.Nat.{_≤_};
+ghost use Rattle.rules.specs.Rules.{choice as chosen, outcome};
+ghost use Rattle.nucleus.specs.View.{view, Consists};
+ghost use Rattle.image.specs.Longest.{longestImage};
+ghost use Rattle.image.specs.Locates.{Locates};
+ghost use Rattle.board.specs.Promise.{choiceCode, runs, declined, acted as actedOn, badCode, stepOn, Boards, unplayed, replayOn, Replays, freshOn};
+use image::save::Saved;
+use journal::Read;
+use nucleus::State;
+use rules::Choice;
+use rules::Event;
+use rules::Number;
+
+// Document 01's codes: the buffer is too short; not exactly one record; the kind is not known.
+const SHORT: u8 = 7;
+
+const NOT_ONE: u8 = 12;
+
+const UNKNOWN: u8 = 13;
+
+// What one record comes to: code, choice and next, the number given, and the new image's length.
+pub struct Told {
+    pub code: u8,
+    pub choice: u8,
+    pub next: u8,
+    pub number: u8,
+    pub length: u16,
+}
+
+// What a log comes to: as above, with the count of the whole records and of their bytes.
+pub struct Brought {
+    pub code: u8,
+    pub choice: u8,
+    pub next: u8,
+    pub records: u32,
+    pub bytes: u32,
+    pub length: u16,
+}
+
+fn choice_code(x: Choice) -> u8
+    ensures { λ r. ⌜ r ≡ choiceCode x ⌝ }
+{
+    match x {
+        Choice::Run(_) => 0,
+        Choice::Halt => 1,
+        Choice::Wait => 2,
+        Choice::Stuck => 3,
+    }
+}
+
+// The number that runs.
+fn next_of(x: Choice) -> u8
+    ensures { λ r. ⌜ r ≡ runs x ⌝ }
+{
+    match x {
+        Choice::Run(n) => n.0,
+        Choice::Halt => rules::NOBODY,
+        Choice::Wait => rules::NOBODY,
+        Choice::Stuck => rules::NOBODY,
+    }
+}
+
+// An image's length fits in two bytes.
+fn narrow(n: usize) -> u16
+    requires { ⌜ n ≤ longestImage ⌝ }
+    ensures { λ r. ⌜ r ≡ n ⌝ }
+{
+    n as u16
+}
+
+fn decline(code: u8, x: Choice) -> Told
+    ensures { λ r. ⌜ r ≡ declined code x ⌝ }
+{
+    Told {
+        code: code,
+        choice: choice_code(x),
+        next: next_of(x),
+        number: rules::NOBODY,
+        length: 0,
+    }
+}
+
+// The event happens to the state loaded, and the next state is saved into the board's buffer.
+fn act(s: State, e: Event, out: &mut [u8]) -> Told
+    requires { ⌜ Consists s ⌝ }
+    ensures { λ r. ⌜ (r, now (out .exit)) ≡ actedOn (view s) (outcome e (view s)) (now (out .entry)) ⌝ }
+{
+    let r = s.act(e);
+    if r.code != 0 {
+        return decline(r.code, s.choose());
+    }
+    let t = r.state;
+    let saved = image::save::keep(t, out);
+    if saved.code != 0 {
+        return decline(SHORT, s.choose());
+    }
+    let x = r.choice;
+    Told {
+        code: 0,
+        choice: choice_code(x),
+        next: next_of(x),
+        number: r.number.0,
+        length: narrow(saved.length),
+    }
+}
+
+// 13 for a kind that is not known, 12 for all else that is no whole record.
+fn bad(got: Read) -> u8
+    ensures { λ r. ⌜ r ≡ badCode got ⌝ }
+{
+    match got {
+        Read::Record { event: _, next: _ } => NOT_ONE,
+        Read::AtEnd => NOT_ONE,
+        Read::CutShort => NOT_ONE,
+        Read::UnknownKind => UNKNOWN,
+        Read::PastEnd => NOT_ONE,
+    }
+}
+
+// The state loaded takes one record, and nothing behind it.
+fn take(s: State, rec: &[u8], out: &mut [u8]) -> Told
+    requires { ⌜ Consists s ⌝ }
+    ensures { λ r. ⌜ (r, now (out .exit)) ≡ stepOn (view s) (now (rec .entry)) (now (out .entry)) ⌝ }
+{
+    let got = journal::read_at(rec, 0);
+    let Read::Record { event, next } = got else {
+        return decline(bad(got), s.choose());
+    };
+    if next != rec.len() {
+        return decline(NOT_ONE, s.choose());
+    }
+    act(s, event, out)
+}
+
+fn step(image: &[u8], rec: &[u8], out: &mut [u8]) -> Told
+    ensures { λ r. ⌜ Boards (now (image .entry)) (now (rec .entry)) (now (out .entry)) (r, now (out .exit)) ⌝ }
+{
+    let from = image::load(image);
+    if from.code != 0 {
+        return decline(from.code, Choice::Halt);
+    }
+    let s = from.state;
+    take(s, rec, out)
+}
+
+// One record happens to an image. The code is returned.
+#[no_mangle]
+pub extern "C" fn rumqatiss_board(
+    image: &[u8],
+    rec: &[u8],
+    out: &mut [u8],
+    choice: &mut u8,
+    next: &mut u8,
+    number: &mut u8,
+    size: &mut u16,
+) -> u8
+    ensures { λ r. ⌜ Boards (now (image .entry)) (now (rec .entry)) (now (out .entry))
+        (record { code = r; choice = now (choice .exit); next = now (next .exit); number = now (number .exit); length = now (size .exit) }, now (out .exit)) ⌝ }
+{
+    let t = step(image, rec, out);
+    *choice = t.choice;
+    *next = t.next;
+    *number = t.number;
+    *size = t.length;
+    t.code
+}
+
+// Saves the fresh state. The code and the length.
+fn begin(out: &mut [u8]) -> Saved
+    ensures { λ r. ⌜ ((r .code, r .length, now (out .exit)) ≡ freshOn (now (out .entry))) × (r .length ≤ longestImage) ⌝ }
+{
+    let s = State::fresh();
+    image::save::keep(s, out)
+}
+
+// The image of the fresh state. The code is returned.
+#[no_mangle]
+pub extern "C" fn rumqatiss_fresh(out: &mut [u8], size: &mut u16) -> u8
+    ensures { λ r. ⌜ (r, now (size .exit), now (out .exit)) ≡ freshOn (now (out .entry)) ⌝ }
+{
+    let saved = begin(out);
+    *size = narrow(saved.length);
+    saved.code
+}
+
+fn unplay(code: u8, x: Choice) -> Brought
+    ensures { λ r. ⌜ r ≡ unplayed code x ⌝ }
+{
+    Brought {
+        code: code,
+        choice: choice_code(x),
+        next: next_of(x),
+        records: 0,
+        bytes: 0,
+        length: 0,
+    }
+}
+
+// The log is replayed on the state loaded, and the state after its whole records saved into the board's buffer.
+fn play(s: State, log: &[u8], out: &mut [u8]) -> Brought
+    requires { ⌜ Consists s ⌝ }
+    ensures { λ r. ⌜ (r, now (out .exit)) ≡ replayOn (view s) (now (log .entry)) (now (out .entry)) ⌝ }
+{
+    if logbook::LIMIT < log.len() {
+        return unplay(logbook::NO_ROOM, s.choose());
+    }
+    let r = logbook::replay(s, log);
+    let t = r.state;
+    let saved = image::save::keep(t, out);
+    if saved.code != 0 {
+        return unplay(SHORT, s.choose());
+    }
+    let x = r.choice;
+    Brought {
+        code: r.code,
+        choice: choice_code(x),
+        next: next_of(x),
+        records: r.records,
+        bytes: r.bytes,
+        length: narrow(saved.length),
+    }
+}
+
+fn bring(image: &[u8], log: &[u8], out: &mut [u8]) -> Brought
+    ensures { λ r. ⌜ Replays (now (image .entry)) (now (log .entry)) (now (out .entry)) (r, now (out .exit)) ⌝ }
+{
+    let from = image::load(image);
+    if from.code != 0 {
+        return unplay(from.code, Choice::Halt);
+    }
+    let s = from.state;
+    play(s, log, out)
+}
+
+// A log is replayed on an image. The code is returned.
+#[no_mangle]
+pub extern "C" fn rumqatiss_replay(
+    image: &[u8],
+    log: &[u8],
+    out: &mut [u8],
+    choice: &mut u8,
+    next: &mut u8,
+    records: &mut u32,
+    bytes: &mut u32,
+    size: &mut u16,
+) -> u8
+    ensures { λ r. ⌜ Replays (now (image .entry)) (now (log .entry)) (now (out .entry))
+        (record { code = r; choice = now (choice .exit); next = now (next .exit); records = now (records .exit); bytes = now (bytes .exit); length = now (size .exit) }, now (out .exit)) ⌝ }
+{
+    let t = bring(image, log, out);
+    *choice = t.choice;
+    *next = t.next;
+    *records = t.records;
+    *bytes = t.bytes;
+    *size = t.length;
+    t.code
+}
+
+// Where in an image the body of the thread with this number stands. The code is returned.
+#[no_mangle]
+pub extern "C" fn rumqatiss_look_up(
+    image: &[u8],
+    number: u8,
+    offset: &mut u16,
+    size: &mut u16,
+) -> u8
+    ensures { λ r. ⌜ Locates (now (image .entry)) number r (now (offset .exit)) (now (size .exit)) ⌝ }
+{
+    let part = image::locate(image, Number(number));
+    *offset = narrow(part.offset);
+    *size = narrow(part.length);
+    part.code
+}
