@@ -1,0 +1,2 @@
+/* See stdint.h. */
+void exit(int) __attribute__((noreturn));

@@ -1,0 +1,2 @@
+/* See stdint.h. */
+int fsync(int);

@@ -1,0 +1,377 @@
+/* Tries the library of include/rumqatiss.h on tables of vectors and at its limits: every result, and every byte of every buffer.
+
+       test BOARD.tsv LOAD.tsv REPLAY.tsv
+
+   A table has a head line that names its columns, and a row a vector, its columns parted by tabs; bytes are in hex, "-" for none.
+   Each buffer and each result stands between marked bytes, which must be as they were after the call, as must what is only read. */
+#include <stdio.h>
+#include <stdlib.h>
+#include <string.h>
+#include "rumqatiss.h"
+
+enum { EDGE = 64, LARGEST = 66000, ROOM = RUMQATISS_LONGEST_IMAGE + 16, MARK = 0xA6 };
+
+/* ---- what is lent to a call */
+
+/* Bytes between two edges, and what they must be after the call. */
+struct lent {
+    const char *name;
+    int is_number;
+    size_t len;
+    uint8_t want[LARGEST];
+    _Alignas(8) uint8_t area[EDGE + LARGEST + EDGE];
+};
+
+static struct lent image = { .name = "image" }, record = { .name = "record" }, events = { .name = "log" }, out = { .name = "out" };
+static struct lent choice = { .name = "choice" }, next = { .name = "next" }, number = { .name = "number" }, length = { .name = "length" };
+static struct lent records = { .name = "records" }, bytes = { .name = "bytes" }, offset = { .name = "offset" };
+
+static struct lent *used[16];  /* what the coming call is lent */
+static int uses;
+static int nulls;              /* whether an empty buffer is lent as a null pointer */
+static const char *table;      /* where the vector stands, for messages */
+static int line;
+
+/* An edge's bytes differ from their neighbours', so that a shifted copy shows too. */
+static uint8_t edge(size_t i) { return (uint8_t)(i * 37 + 11); }
+
+static uint8_t *lend(struct lent *b, size_t len) {
+    for (size_t i = 0; i < EDGE; i++) b->area[i] = b->area[EDGE + len + i] = edge(i);
+    b->len = len;
+    used[uses++] = b;
+    return nulls && len == 0 ? NULL : b->area + EDGE;
+}
+
+/* Bytes that the call only reads. */
+static const uint8_t *lend_bytes(struct lent *b, const uint8_t *from, size_t len) {
+    uint8_t *at = lend(b, len);
+    if (len != 0) memcpy(at, from, len);
+    memcpy(b->want, b->area + EDGE, len);
+    return at;
+}
+
+/* The output buffer, filled; after the call the image is to stand at its head. */
+static uint8_t *lend_out(size_t room, uint8_t fill, const uint8_t *after, size_t n) {
+    uint8_t *at = lend(&out, room);
+    memset(out.area + EDGE, fill, room);
+    memset(out.want, fill, room);
+    if (n != 0) memcpy(out.want, after, n);
+    return at;
+}
+
+/* A result of that width. Before the call it differs in every bit from what it must become, so that each call must write it. */
+static void *lend_number(struct lent *b, size_t width, uint32_t want) {
+    uint8_t *at = lend(b, width);
+    b->is_number = 1;
+    for (size_t i = 0; i < width; i++) {
+        b->want[i] = (uint8_t)(want >> 8 * i);
+        at[i] = (uint8_t)~b->want[i];
+    }
+    return at;
+}
+
+/* ---- after a call */
+
+static void show(const char *what, const uint8_t *b, const struct lent *l) {
+    printf("  %s %s: ", l->name, what);
+    uint32_t n = 0;
+    if (l->is_number) {
+        for (size_t i = l->len; i > 0; i--) n = n << 8 | b[i - 1];
+        printf("%u", n);
+    } else {
+        for (size_t i = 0; i < l->len; i++) printf("%02x", b[i]);
+    }
+    printf("\n");
+}
+
+static int edges_stand(const struct lent *l) {
+    for (size_t i = 0; i < EDGE; i++) {
+        if (l->area[i] != edge(i) || l->area[EDGE + l->len + i] != edge(i)) return 0;
+    }
+    return 1;
+}
+
+/* Compares all that the call was lent with what it must be. The first disagreement is said in full, and ends the test. */
+static void settle(const char *call, uint8_t code, uint8_t want) {
+    int agree = code == want;
+    for (int i = 0; i < uses; i++) {
+        agree = agree && edges_stand(used[i]) && memcmp(used[i]->area + EDGE, used[i]->want, used[i]->len) == 0;
+    }
+    if (!agree) {
+        printf("%s, line %d: %s disagrees\n  code is: %d\n  code should be: %d\n", table, line, call, code, want);
+        for (int i = 0; i < uses; i++) {
+            const struct lent *l = used[i];
+            show("is", l->area + EDGE, l);
+            if (memcmp(l->area + EDGE, l->want, l->len) != 0) show("should be", l->want, l);
+            if (!edges_stand(l)) printf("  %s: a byte before or behind it was changed\n", l->name);
+        }
+        exit(1);
+    }
+    uses = 0;
+}
+
+/* ---- the calls, each with what it must come to */
+
+struct part { const uint8_t *at; size_t len; };
+struct chosen { uint8_t kind, runs; };
+
+static const struct part none = { NULL, 0 };
+static const struct chosen halt = { RUMQATISS_HALT, RUMQATISS_NOBODY };
+
+static void try_board(struct part im, struct part rec, size_t room, uint8_t fill, uint8_t code, struct chosen c, uint8_t given, struct part after) {
+    const uint8_t *i = lend_bytes(&image, im.at, im.len), *r = lend_bytes(&record, rec.at, rec.len);
+    uint8_t *o = lend_out(room, fill, after.at, after.len);
+    uint8_t *ch = lend_number(&choice, 1, c.kind), *ne = lend_number(&next, 1, c.runs), *nu = lend_number(&number, 1, given);
+    uint16_t *le = lend_number(&length, 2, (uint32_t)after.len);
+    settle("rumqatiss_board", rumqatiss_board(i, im.len, r, rec.len, o, room, ch, ne, nu, le), code);
+}
+
+static void try_replay(struct part im, struct part log, size_t room, uint8_t code, struct chosen c, uint32_t count, uint32_t read, struct part after) {
+    const uint8_t *i = lend_bytes(&image, im.at, im.len), *g = lend_bytes(&events, log.at, log.len);
+    uint8_t *o = lend_out(room, MARK, after.at, after.len);
+    uint8_t *ch = lend_number(&choice, 1, c.kind), *ne = lend_number(&next, 1, c.runs);
+    uint32_t *re = lend_number(&records, 4, count), *by = lend_number(&bytes, 4, read);
+    uint16_t *le = lend_number(&length, 2, (uint32_t)after.len);
+    settle("rumqatiss_replay", rumqatiss_replay(i, im.len, g, log.len, o, room, ch, ne, re, by, le), code);
+}
+
+static void try_look_up(struct part im, uint8_t who, uint8_t code, uint16_t start, uint16_t len) {
+    const uint8_t *i = lend_bytes(&image, im.at, im.len);
+    uint16_t *of = lend_number(&offset, 2, start), *le = lend_number(&length, 2, len);
+    char call[40];
+    snprintf(call, sizeof call, "rumqatiss_look_up of number %d", who);
+    settle(call, rumqatiss_look_up(i, im.len, who, of, le), code);
+}
+
+static void try_fresh(size_t room, uint8_t code, struct part after) {
+    uint8_t *o = lend_out(room, MARK, after.at, after.len);
+    uint16_t *le = lend_number(&length, 2, (uint32_t)after.len);
+    settle("rumqatiss_fresh", rumqatiss_fresh(o, room, le), code);
+}
+
+/* The choice of an image that load takes, as its bytes say it. */
+static struct chosen choice_of(struct part im) {
+    for (size_t i = 8; i < 8 + 4 * (size_t)im.at[3]; i += 4) {
+        if (im.at[i] == im.at[2]) return (struct chosen){ RUMQATISS_RUN, im.at[i + 1] };
+    }
+    if (im.at[3] == 0) return halt;
+    return (struct chosen){ im.at[5] != 0 ? RUMQATISS_WAIT : RUMQATISS_STUCK, RUMQATISS_NOBODY };
+}
+
+/* ---- the tables */
+
+static void broken(const char *what) {
+    printf("%s, line %d: %s\n", table, line, what);
+    exit(1);
+}
+
+static uint32_t number_in(const char *text) {
+    unsigned n;
+    if (sscanf(text, "%u", &n) != 1) broken("a number was expected");
+    return n;
+}
+
+/* Hex to bytes, over the text itself. */
+static struct part bytes_in(char *text) {
+    struct part p = { (uint8_t *)text, 0 };
+    if (strcmp(text, "-") == 0) return none;
+    for (uint8_t b; text[2 * p.len] != 0; p.len++) {
+        if (text[2 * p.len + 1] == 0 || sscanf(text + 2 * p.len, "%2hhx", &b) != 1) broken("bytes in hex were expected");
+        ((uint8_t *)text)[p.len] = b;
+    }
+    return p;
+}
+
+/* "run N", "halt", "wait" or "stuck" */
+static struct chosen choice_in(const char *text) {
+    unsigned n;
+    if (sscanf(text, "run %u", &n) == 1) return (struct chosen){ RUMQATISS_RUN, (uint8_t)n };
+    if (strcmp(text, "halt") == 0) return halt;
+    if (strcmp(text, "wait") == 0) return (struct chosen){ RUMQATISS_WAIT, RUMQATISS_NOBODY };
+    if (strcmp(text, "stuck") == 0) return (struct chosen){ RUMQATISS_STUCK, RUMQATISS_NOBODY };
+    broken("a choice was expected");
+    return halt;
+}
+
+/* image record room fill > code choice number length out */
+static void board_row(char **f) {
+    struct part im = bytes_in(f[0]), rec = bytes_in(f[1]), after = bytes_in(f[8]);
+    uint8_t fill = (uint8_t)number_in(f[3]), code = (uint8_t)number_in(f[4]);
+    if (after.len != number_in(f[7])) broken("the image's length was expected");
+    try_board(im, rec, number_in(f[2]), fill, code, choice_in(f[5]), (uint8_t)number_in(f[6]), after);
+    if (code != RUMQATISS_DONE) return;
+    try_board(im, rec, after.len, fill, code, choice_in(f[5]), (uint8_t)number_in(f[6]), after);
+    try_board(im, rec, after.len - 1, fill, RUMQATISS_SHORT_BUFFER, choice_of(im), RUMQATISS_NOBODY, none);
+}
+
+/* image > code resaved choice lookups updatecode updated; a look-up is number:offset:length, 0:0 where there is none */
+static void load_row(char **f) {
+    struct part im = bytes_in(f[0]);
+    uint8_t code = (uint8_t)number_in(f[1]), absent = code == RUMQATISS_DONE ? RUMQATISS_NOT_LIVE : code;
+    try_replay(im, none, ROOM, code, choice_in(f[3]), 0, 0, code == RUMQATISS_DONE ? bytes_in(f[2]) : none);
+    unsigned who, start, len;
+    int seen = 0;
+    for (char *p = f[4]; sscanf(p, "%u:%u:%u%n", &who, &start, &len, &seen) == 3; p += *p == ',') {
+        try_look_up(im, (uint8_t)who, len == 0 ? absent : RUMQATISS_DONE, (uint16_t)start, (uint16_t)len);
+        p += seen;
+    }
+    if (seen == 0) broken("look-ups were expected");
+    if (code != RUMQATISS_DONE) return;
+    /* every thread that the image's contents name */
+    for (size_t i = 8; i < 8 + 4 * (size_t)im.at[3]; i += 4) {
+        size_t body = im.at[i + 2] | (size_t)im.at[i + 3] << 8;
+        try_look_up(im, im.at[i + 1], RUMQATISS_DONE, (uint16_t)body, (uint16_t)(13 + im.at[body + 12]));
+    }
+}
+
+/* image log > code records bytes choice final */
+static void replay_row(char **f) {
+    struct part im = bytes_in(f[0]), log = bytes_in(f[1]), after = bytes_in(f[6]);
+    uint8_t code = (uint8_t)number_in(f[2]);
+    struct chosen c = choice_in(f[5]);
+    try_replay(im, log, ROOM, code, c, number_in(f[3]), number_in(f[4]), after);
+    try_replay(im, log, after.len, code, c, number_in(f[3]), number_in(f[4]), after);
+    try_replay(im, log, after.len - 1, RUMQATISS_SHORT_BUFFER, choice_of(im), 0, 0, none);
+}
+
+static void try_table(const char *name, const char *path, int columns, void row(char **)) {
+    static char text[8192];
+    char *f[16];
+    int vectors = 0;
+    FILE *in = fopen(path, "r");
+    table = path;
+    line = 0;
+    if (in == NULL) broken("the table cannot be opened");
+    while (fgets(text, sizeof text, in) != NULL) {
+        line++;
+        if (text[0] == '#') continue;
+        char *end = strchr(text, '\n');
+        if (end == NULL) broken("the line is too long, or has no end");
+        *end = 0;
+        int n = 0;
+        for (char *p = text; p != NULL && n < columns; n++) {
+            f[n] = p;
+            p = strchr(p, '\t');
+            if (p != NULL) *p++ = 0;
+        }
+        if (n != columns) broken("a column is missing");
+        row(f);
+        vectors++;
+    }
+    if (ferror(in) || vectors == 0) broken("there are no vectors");
+    fclose(in);
+    printf("%s: %d vectors agree\n", name, vectors);
+}
+
+/* ---- what no table has */
+
+static const uint8_t fresh_bytes[] = { 1, 253, 255, 0, 0, 0, 8, 0 };
+static const uint8_t first_bytes[] = { 1, 0, 0, 1, 0, 0, 25, 0, 0, 0, 12, 0, 1, 255, 0, 0, 0, 0, 0, 255, 0, 0, 0, 0, 0 };
+static const struct part fresh = { fresh_bytes, sizeof fresh_bytes }, first = { first_bytes, sizeof first_bytes };
+
+static void try_rooms(void) {
+    table = "fresh";
+    for (size_t room = 0; room <= 16; room++) {
+        line = (int)room;
+        if (room < RUMQATISS_FRESH_IMAGE) try_fresh(room, RUMQATISS_SHORT_BUFFER, none);
+        else try_fresh(room, RUMQATISS_DONE, fresh);
+    }
+    printf("fresh: buffers of 0 to 16 bytes agree\n");
+}
+
+/* A record of every kind in every length: only the length of RUMQATISS_RECORD_LENGTHS is one record. */
+static void try_lengths(void) {
+    static const uint8_t lengths[8] = RUMQATISS_RECORD_LENGTHS;
+    static const uint8_t codes[8] = { 0, 1, 1, 1, 4, 1, 0, 0 };  /* what the event comes to where no thread lives */
+    static const struct chosen run_0 = { RUMQATISS_RUN, 0 };
+    for (line = 0; line <= 255; line++) {
+        for (size_t n = 1; n <= RUMQATISS_LONGEST_RECORD + 1; n++) {
+            uint8_t b[RUMQATISS_LONGEST_RECORD + 1] = { (uint8_t)line };
+            struct part rec = { b, n };
+            if (line < 1 || line > 8) try_board(fresh, rec, ROOM, MARK, RUMQATISS_UNKNOWN_KIND, halt, RUMQATISS_NOBODY, none);
+            else if (n != lengths[line - 1]) try_board(fresh, rec, ROOM, MARK, RUMQATISS_CUT_SHORT, halt, RUMQATISS_NOBODY, none);
+            else if (line == RUMQATISS_CREATE) try_board(fresh, rec, ROOM, MARK, RUMQATISS_DONE, run_0, 0, first);
+            else try_board(fresh, rec, ROOM, MARK, codes[line - 1], halt, RUMQATISS_NOBODY, codes[line - 1] == 0 ? fresh : none);
+        }
+    }
+}
+
+/* The longest image: 32 threads, all of them waiting for the clock. */
+static void try_longest(void) {
+    static const uint8_t create = RUMQATISS_CREATE;
+    static const struct chosen wait = { RUMQATISS_WAIT, RUMQATISS_NOBODY };
+    uint8_t log[64], full[RUMQATISS_LONGEST_IMAGE] = { 1, 31, 255, 32, 0, 32, 584 & 255, 584 >> 8 };
+    for (uint8_t i = 0; i < 32; i++) {
+        uint16_t body = (uint16_t)(8 + 32 * 4 + 32 + 13 * i);
+        log[i] = RUMQATISS_CREATE;
+        log[32 + i] = RUMQATISS_WAIT_CLOCK;
+        full[8 + 4 * i] = full[9 + 4 * i] = full[8 + 32 * 4 + i] = i;
+        full[10 + 4 * i] = (uint8_t)body;
+        full[11 + 4 * i] = (uint8_t)(body >> 8);
+        full[body] = 6;
+        full[body + 1] = full[body + 7] = 255;
+    }
+    struct part all = { log, sizeof log }, after = { full, sizeof full }, rec = { &create, 1 };
+    line = 0;
+    try_replay(fresh, all, sizeof full, RUMQATISS_DONE, wait, 64, 64, after);
+    try_replay(fresh, all, sizeof full - 1, RUMQATISS_SHORT_BUFFER, halt, 0, 0, none);
+    try_board(after, rec, ROOM, MARK, RUMQATISS_FULL, wait, RUMQATISS_NOBODY, none);
+    try_look_up(after, 31, RUMQATISS_DONE, RUMQATISS_LONGEST_IMAGE - 13, 13);
+}
+
+/* Lengths at which two bytes, or the log's limit, end. */
+static void try_large(void) {
+    static uint8_t b[65536 + sizeof fresh_bytes];
+    static const uint8_t tick = RUMQATISS_TICK;
+    struct part large = { b, sizeof b }, rec = { &tick, 1 };
+    line = 0;
+    memset(b, RUMQATISS_SLICE_END, sizeof b);
+    try_replay(fresh, (struct part){ b, RUMQATISS_LONGEST_LOG }, ROOM, RUMQATISS_DONE, halt, RUMQATISS_LONGEST_LOG, RUMQATISS_LONGEST_LOG, fresh);
+    try_replay(fresh, (struct part){ b, RUMQATISS_LONGEST_LOG + 1 }, ROOM, RUMQATISS_LONG_LOG, halt, 0, 0, none);
+    try_replay(fresh, (struct part){ b, RUMQATISS_LONGEST_LOG + 1 }, 0, RUMQATISS_LONG_LOG, halt, 0, 0, none);
+    /* 65,544 is 8 in two bytes, as this image's length field says */
+    memcpy(b, fresh_bytes, sizeof fresh_bytes);
+    try_board(large, rec, ROOM, MARK, RUMQATISS_BAD_LENGTH, halt, RUMQATISS_NOBODY, none);
+    try_replay(large, large, ROOM, RUMQATISS_BAD_LENGTH, halt, 0, 0, none);
+    try_look_up(large, 0, RUMQATISS_BAD_LENGTH, 0, 0);
+    b[0] = 2;
+    try_board(large, rec, ROOM, MARK, RUMQATISS_OTHER_EDITION, halt, RUMQATISS_NOBODY, none);
+}
+
+/* Every empty buffer as a null pointer. */
+static void try_nulls(void) {
+    static const uint8_t create = RUMQATISS_CREATE;
+    struct part rec = { &create, 1 };
+    nulls = 1;
+    line = 0;
+    try_board(none, none, 0, MARK, RUMQATISS_BAD_LENGTH, halt, RUMQATISS_NOBODY, none);
+    try_board(fresh, none, 0, MARK, RUMQATISS_CUT_SHORT, halt, RUMQATISS_NOBODY, none);
+    try_board(fresh, rec, 0, MARK, RUMQATISS_SHORT_BUFFER, halt, RUMQATISS_NOBODY, none);
+    try_replay(none, none, 0, RUMQATISS_BAD_LENGTH, halt, 0, 0, none);
+    try_replay(fresh, none, 0, RUMQATISS_SHORT_BUFFER, halt, 0, 0, none);
+    try_replay(fresh, none, ROOM, RUMQATISS_DONE, halt, 0, 0, fresh);
+    try_look_up(none, 0, RUMQATISS_BAD_LENGTH, 0, 0);
+    try_fresh(0, RUMQATISS_SHORT_BUFFER, none);
+    nulls = 0;
+}
+
+int main(int argc, char **argv) {
+    if (argc != 4) {
+        printf("usage: test BOARD.tsv LOAD.tsv REPLAY.tsv\n");
+        return 1;
+    }
+    try_table("board", argv[1], 9, board_row);
+    try_table("load", argv[2], 7, load_row);
+    try_table("replay", argv[3], 7, replay_row);
+    try_rooms();
+    table = "record lengths";
+    try_lengths();
+    table = "longest image";
+    try_longest();
+    table = "large buffers";
+    try_large();
+    table = "null pointers";
+    try_nulls();
+    printf("limits: record lengths, the longest image, large buffers and null pointers agree\n");
+    return 0;
+}

@@ -1,0 +1,161 @@
+/* The nucleus of the cab terminal, for C: threads, a ready queue, and send, receive and reply between them.
+
+   The library keeps nothing between two calls. The whole state of the nucleus is an IMAGE, a few hundred bytes that you
+   keep. One thing that happens is a RECORD, 1 to 6 bytes. You hand over an image and a record, and get the next image.
+   Records written one behind another are a LOG. An image and the log since give the present image back after a power cut.
+   examples/board.c shows the whole of it.
+
+   WHAT YOU OWE
+   - A buffer is a pointer and a length. The pointer points to at least that many bytes. Any bytes may stand in them: an
+     image from a broken medium is refused, never trusted.
+   - With length 0 nothing is read or written through the pointer, so it may be null. A result's pointer may not be null.
+   - `out` and the results are written. None of them may overlap another, nor a buffer that is read: the new image cannot go
+     over the old one. Buffers that are only read (image, record, log) may overlap.
+   - Nobody else writes to these bytes before the call returns. Otherwise calls from several threads are independent.
+   - A uint16_t or uint32_t result is aligned as C asks.
+
+   WHAT IS PROMISED, whatever the bytes
+   - The call returns. It writes to `out` and to the results, and nowhere else. Every result is written at every call.
+   - With code 0, and with 12 and 13 of rumqatiss_replay, the new image is in the first `length` bytes of `out`, and every byte
+     past it is as it was. In all other cases every byte of `out` is as it was.
+   - An image is taken only where it is that of a consistent state, byte for byte, with nothing behind it: image_len is exactly
+     the length that the image says.
+   This is proved of the library's source, and c/test.c tries it on what the compiler made of that. Not proved: that your stack is
+   large enough. A call was measured to use less than 6 KB of it.
+
+   THE IMAGE begins with 8 bytes: the edition, which is 1; the last number given; the running thread's place, or 255; how many
+   threads live; how many are ready; how many wait for the clock; and the image's length, in two bytes, the lower first. Four bytes
+   follow for each live thread: its place (0 to 31), its number, and in two bytes where its body begins. Then come the places of the
+   ready threads, of those that wait for the clock, and the bodies (see rumqatiss_look_up).
+
+   THE RECORDS. The kind is the first byte. A number is one byte. A word is four bytes, the lowest first.
+
+     kind             bytes                 what happens
+     1 create         01                    a new thread joins the back of ready; its number is given
+     2 send           02 number word        the running thread sends the word to that thread, and stops until the reply
+     3 receive        03 number             the running thread receives from that thread (FF: from anyone), or stops until it can
+     4 reply          04 number word        the running thread replies to that thread, which runs at once
+     5 end            05 number             that thread ends; whoever stands in a send to it gets the answer 16
+     6 wait           06                    the running thread waits for the clock
+     7 slice end      07                    the running thread goes to the back of ready, and the front runs
+     8 tick           08                    all who wait for the clock join ready
+
+   THE CODES
+
+     code  given exactly when                                                              by rumqatiss_..
+      0    done                                                                            all
+      1    send, receive, reply or wait, and nobody runs                                   board
+      2    the number is above 253 (for receive: it is 254)                                board
+      3    send, receive or reply names the running thread itself                          board
+      4    send, reply, end or look-up: no live thread has this number                     board, look_up
+      5    reply: the thread does not await the running thread's reply                     board
+      6    create, and 32 threads live                                                     board
+      7    `out` is shorter than the new image                                             board, fresh, replay
+      8    the image has under 8 bytes, or is not as long as it says                       board, replay, look_up
+      9    the image's edition is not 1                                                    board, replay, look_up
+     10    the image is that of no consistent state                                        board, replay, look_up
+     11    the log is longer than 32,768 bytes                                             replay
+     12    board: not exactly one record. replay: the last record is cut short             board, replay
+     13    the record is of no known kind                                                  board, replay
+
+   The library is for x86-64. `rt staticlib board` writes it, as target/staticlib/libboard.a. */
+#ifndef RUMQATISS_H
+#define RUMQATISS_H
+
+#include <stddef.h>
+#include <stdint.h>
+
+#ifdef __cplusplus
+extern "C" {
+#endif
+
+#define RUMQATISS_LONGEST_IMAGE 584  /* bytes; no buffer need be longer */
+#define RUMQATISS_FRESH_IMAGE 8      /* bytes of the fresh image, the shortest of all */
+#define RUMQATISS_LONGEST_LOG 32768  /* bytes that rumqatiss_replay takes; save a new image before */
+#define RUMQATISS_LONGEST_RECORD 6   /* bytes */
+#define RUMQATISS_RECORD_LENGTHS { 1, 6, 2, 6, 2, 1, 1, 1 }  /* bytes of a record of kind 1, 2, .. 8 */
+#define RUMQATISS_NOBODY 255         /* no number; in a receive, anyone */
+
+/* Thread numbers run from 0 to 253. */
+
+enum rumqatiss_kind {
+    RUMQATISS_CREATE = 1,
+    RUMQATISS_SEND = 2,
+    RUMQATISS_RECEIVE = 3,
+    RUMQATISS_REPLY = 4,
+    RUMQATISS_END = 5,
+    RUMQATISS_WAIT_CLOCK = 6,
+    RUMQATISS_SLICE_END = 7,
+    RUMQATISS_TICK = 8
+};
+
+enum rumqatiss_code {
+    RUMQATISS_DONE = 0,
+    RUMQATISS_NOBODY_RUNS = 1,
+    RUMQATISS_BAD_NUMBER = 2,
+    RUMQATISS_NAMES_CALLER = 3,
+    RUMQATISS_NOT_LIVE = 4,
+    RUMQATISS_NOT_AWAITING = 5,
+    RUMQATISS_FULL = 6,
+    RUMQATISS_SHORT_BUFFER = 7,
+    RUMQATISS_BAD_LENGTH = 8,
+    RUMQATISS_OTHER_EDITION = 9,
+    RUMQATISS_NO_IMAGE = 10,
+    RUMQATISS_LONG_LOG = 11,
+    RUMQATISS_CUT_SHORT = 12,
+    RUMQATISS_UNKNOWN_KIND = 13
+};
+
+/* What the processor is to do now. */
+enum rumqatiss_choice {
+    RUMQATISS_RUN = 0,   /* the thread `next` runs; in all other cases `next` is 255 */
+    RUMQATISS_HALT = 1,  /* no thread lives */
+    RUMQATISS_WAIT = 2,  /* sleep until the clock ticks */
+    RUMQATISS_STUCK = 3  /* threads live, and none of them runs or waits for the clock */
+};
+
+/* One record happens to an image.
+   Returns the code. The tests in their order: the image's (8 for under 8 bytes, 9, 8 for its length, 10), 13, 12, 1 to 6, 7.
+   choice, next  code 0: of the new image. Another code: of the image given, or halt where 8, 9 or 10 refused it.
+   number        the new thread's number after a create with code 0; else 255.
+   length        of the new image with code 0; else 0, and the image given is still the present one. */
+uint8_t rumqatiss_board(const uint8_t *image, size_t image_len,
+                        const uint8_t *record, size_t record_len,
+                        uint8_t *out, size_t out_len,
+                        uint8_t *choice, uint8_t *next, uint8_t *number, uint16_t *length);
+
+/* The image of a nucleus with no threads, to begin with.
+   Returns 0, and length is 8; or 7, and length is 0. */
+uint8_t rumqatiss_fresh(uint8_t *out, size_t out_len, uint16_t *length);
+
+/* The records of a log happen to an image, one after another. An event that is refused (1 to 6) changes nothing, and the next follows.
+   Returns the code. The tests in their order: the image's as above, 11, 7. Then it is 0 where the log was read to its end, or what
+   stopped it: 12 a last record that is cut short, 13 a byte that begins no record. With 12 and 13 the records before it have happened.
+   choice, next  codes 0, 12, 13: of the new image. Another code: of the image given, or halt where 8, 9 or 10 refused it.
+   records       codes 0, 12, 13: how many whole records were read. Another code: 0.
+   bytes         codes 0, 12, 13: how many bytes these are. Another code: 0. Cut the log off there before you write on.
+   length        codes 0, 12, 13: of the new image. Another code: 0. */
+uint8_t rumqatiss_replay(const uint8_t *image, size_t image_len,
+                         const uint8_t *log, size_t log_len,
+                         uint8_t *out, size_t out_len,
+                         uint8_t *choice, uint8_t *next,
+                         uint32_t *records, uint32_t *bytes, uint16_t *length);
+
+/* Where a thread's body stands in an image.
+   Returns 0, and the body is the `length` bytes at image + offset. Or 8, 9, 10 as above, or 4; then offset and length are 0.
+   A body, byte by byte:
+      0   standing: 1 running, 2 ready, 3 sending, 4 received and awaiting the reply, 5 receiving, 6 waiting for the clock
+      1   partner: whom it sends to (3, 4), or receives from (5; 255 is anyone); else 255
+      2   the word that it sends (3, 4), in four bytes, the lowest first; else 0
+      6   the answer to its last finished call: the code, 0, or 16 where the partner ended,
+      7   from whom, or 255 where there is none,
+      8   and the word, in four bytes
+     12   how many stand in its inbox; behind it their places, first come first. */
+uint8_t rumqatiss_look_up(const uint8_t *image, size_t image_len, uint8_t number,
+                          uint16_t *offset, uint16_t *length);
+
+#ifdef __cplusplus
+}
+#endif
+
+#endif
