@@ -8,6 +8,7 @@ use native.Mathlib.Omega.{arith}
 use borrow.Author.Tests.{eq-eqb, ne-eqb, lt-ltb, le-ltb}
 use lib.Dec.{eqb, ltb}
 use lib.ListN.{length, drop}
+use Rattle.rules.specs.Values.{choiceKind, choiceRuns}
 use Rattle.rules.specs.Model.{Model}
 use Rattle.rules.specs.Rules.{Outcome, outcome, fresh, after, choice}
 use Rattle.rules.specs.declared.Event.{Event}
@@ -32,7 +33,7 @@ use Rattle.logbook.specs.Log.{limit, recordsIn}
 use Rattle.logbook.specs.Promise.{Came, Replays as Plays, inconsistent as torn, too-long, came}
 use Rattle.logbook.specs.declared.Replayed.{Replayed}
 use Rattle.logbook.specs.Reading.{Stops, at-end, cut-short, unknown, past-end}
-use Rattle.board.specs.Promise.{choiceCode, runs, placed, declined, acted, badCode, taken, stepOn, Boards, unloaded, stepped, unplayed, kept, replayOn, Replays, unread, played, freshOn}
+use Rattle.board.specs.Promise.{placed, declined, acted, badCode, taken, stepOn, Boards, unloaded, stepped, unplayed, kept, replayOn, Replays, unread, played, freshOn}
 use Rattle.board.specs.declared.Told.{Told}
 use Rattle.board.specs.declared.Brought.{Brought}
 
@@ -76,7 +77,7 @@ module _ (m : Model) (o : Outcome) (out : List ℕ) {r : Reply} (M : Meets o r) 
     unfolding acted
     act-short y k h = let p = save-tight (M .state) K y in rw (code-zero z, lt-ltb (length out) (length (encode (o .state))) (p .room), h, k, p .same) refl
 
-    pub act-done : {x y l : ℕ} → c ≡ 0 → x ≡ choiceCode (r .choice) → y ≡ runs (r .choice) → l ≡ n
+    pub act-done : {x y l : ℕ} → c ≡ 0 → x ≡ choiceKind (r .choice) → y ≡ choiceRuns (r .choice) → l ≡ n
         → (record { code = 0; choice = x; next = y; number = r .number .0; length = l }, a) ≡ acted m o out
     unfolding acted
     act-done w f g h =
@@ -145,7 +146,7 @@ module _ (s : State) (log out : List ℕ) where
           let p = save-tight plays-shows K y in
           rw (le-ltb limit (length log) h, lt-ltb (length out) (length (encode (after (recordsIn log 0 .events) (view s)))) (p .room), f, g, p .same) refl
 
-      pub play-done : {x y l : ℕ} → c ≡ 0 → x ≡ choiceCode (r .choice) → y ≡ runs (r .choice) → l ≡ n
+      pub play-done : {x y l : ℕ} → c ≡ 0 → x ≡ choiceKind (r .choice) → y ≡ choiceRuns (r .choice) → l ≡ n
           → (record { code = r .code; choice = x; next = y; records = r .records; bytes = r .bytes; length = l }, a) ≡ replayOn (view s) log out
       unfolding kept
       play-done w f g e =

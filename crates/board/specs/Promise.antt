@@ -6,12 +6,12 @@ use mathlib.Core.Bool.{cond}
 use Prim.Native.Nat.{ℕ}
 use lib.Dec.{eqb, ltb}
 use lib.ListN.{length, drop}
-use Rattle.rules.specs.Values.{nobody}
+use Rattle.rules.specs.Values.{nobody, choiceKind, choiceRuns}
 use Rattle.rules.specs.Model.{Model}
 use Rattle.rules.specs.Rules.{Outcome, outcome, fresh, after, choice}
 use Rattle.rules.specs.Consistent.{Consistent}
 use Rattle.rules.specs.declared.Choice.{Choice}
-use Rattle.rules.specs.declared.Choice.the-variants.{Run, Halt, Wait, Stuck}
+use Rattle.rules.specs.declared.Choice.the-variants.{Halt}
 use Rattle.journal.specs.Format.{readAt}
 use Rattle.journal.specs.declared.Read.{Read}
 use Rattle.journal.specs.declared.Read.the-variants.{Record, AtEnd, CutShort, UnknownKind, PastEnd}
@@ -21,37 +21,22 @@ use Rattle.logbook.specs.Log.{limit, Parsed, recordsIn}
 use Rattle.board.specs.declared.Told.{Told}
 use Rattle.board.specs.declared.Brought.{Brought}
 
--- ---- the choice, in two numbers
--- choice: 0 run, 1 halt, 2 wait, 3 stuck
-abbrev pub choiceCode : Choice → ℕ
-choiceCode (Run n) = 0
-choiceCode Halt = 1
-choiceCode Wait = 2
-choiceCode Stuck = 3
-
--- next: the number that runs, 255 where none does
-abbrev pub runs : Choice → ℕ
-runs (Run n) = n .0
-runs Halt = nobody
-runs Wait = nobody
-runs Stuck = nobody
-
 -- the image of m, in front of what the buffer held behind it
 abbrev pub placed : Model → List ℕ → List ℕ
 placed m out = encode m ++ drop (length (encode m)) out
 
--- ---- one record
+-- ---- one record (the choice stands in two numbers: its kind, and the number that runs)
 
 -- Any refusal gives number 255, length 0 and this choice.
 abbrev pub declined : ℕ → Choice → Told
-declined c x = record { code = c; choice = choiceCode x; next = runs x; number = nobody; length = 0 }
+declined c x = record { code = c; choice = choiceKind x; next = choiceRuns x; number = nobody; length = 0 }
 
 -- Any refusal leaves the output buffer untouched. The event's own code comes before 7; under both the choice is that of the state loaded.
 unfoldable pub acted : Model → Outcome → List ℕ → Told × List ℕ
 acted m o out =
     cond (eqb (o .code) 0)
     (cond (ltb (length out) (length (encode (o .state)))) (declined 7 (choice m), out)
-    (record { code = 0; choice = choiceCode (o .choice); next = runs (o .choice); number = o .number; length = length (encode (o .state)) }, placed (o .state) out))
+    (record { code = 0; choice = choiceKind (o .choice); next = choiceRuns (o .choice); number = o .number; length = length (encode (o .state)) }, placed (o .state) out))
     (declined (o .code) (choice m), out)
 
 -- 13: a kind that is not known. 12: not exactly one record (it ends before the bytes do, or they end within it, or there are none).
@@ -81,7 +66,7 @@ pub data Boards (image rec out : List ℕ) (t : Told × List ℕ) : Type 0 where
 
 -- refused: nothing is counted, and the choice is this
 abbrev pub unplayed : ℕ → Choice → Brought
-unplayed c x = record { code = c; choice = choiceCode x; next = runs x; records = 0; bytes = 0; length = 0 }
+unplayed c x = record { code = c; choice = choiceKind x; next = choiceRuns x; records = 0; bytes = 0; length = 0 }
 
 -- the state after the whole records, saved; 7 with nothing written and the choice of the state loaded
 unfoldable pub kept : Model → Parsed → List ℕ → Brought × List ℕ
@@ -89,8 +74,8 @@ kept m p out =
     cond (ltb (length out) (length (encode (after (p .events) m)))) (unplayed 7 (choice m), out) (
       record {
         code = p .code;
-        choice = choiceCode (choice (after (p .events) m));
-        next = runs (choice (after (p .events) m));
+        choice = choiceKind (choice (after (p .events) m));
+        next = choiceRuns (choice (after (p .events) m));
         records = length (p .events);
         bytes = p .stop;
         length = length (encode (after (p .events) m));

@@ -11,7 +11,7 @@ use lib.Dec.{eqb, ltb}
 use lib.ListN.{length, take, drop}
 use lib.Seq.{take-at}
 use Rattle.lists.specs.Laws.{by-test}
-use Rattle.rules.specs.Values.{nobody}
+use Rattle.rules.specs.Values.{nobody, choiceKind, choiceRuns}
 use Rattle.rules.specs.Model.{Model}
 use Rattle.rules.specs.Rules.{Outcome, outcome, full, refusal, given, fresh, next, after, choice}
 use Rattle.rules.specs.Consistent.{Fits, Consistent}
@@ -27,7 +27,7 @@ use Rattle.image.specs.Longest.{longestImage, longest}
 use Rattle.image.specs.Accepts.{refuses-not}
 use Rattle.image.specs.Injective.{encode-injective}
 use Rattle.logbook.specs.History.{after-append}
-use Rattle.board.specs.Promise.{choiceCode, runs, placed, declined, acted, badCode, taken, stepOn, Boards, unloaded, stepped, freshOn}
+use Rattle.board.specs.Promise.{placed, declined, acted, badCode, taken, stepOn, Boards, unloaded, stepped, freshOn}
 use Rattle.board.specs.declared.Told.{Told}
 
 -- ---- what the rules say of any bytes that are handed over as a record
@@ -49,7 +49,7 @@ history (rec ∷ recs) = eventsOf rec ++ history recs
 
 -- code, choice and number of an outcome, and the length of the new image
 abbrev pub told : Outcome → Told
-told o = record { code = o .code; choice = choiceCode (o .choice); next = runs (o .choice); number = o .number; length = cond (eqb (o .code) 0) (length (encode (o .state))) 0 }
+told o = record { code = o .code; choice = choiceKind (o .choice); next = choiceRuns (o .choice); number = o .number; length = cond (eqb (o .code) 0) (length (encode (o .state))) 0 }
 
 abbrev pub saidOf : Model → Read → ℕ → Told
 saidOf m (Record e n) size = cond (eqb n size) (told (outcome e m)) (declined (badCode (Record e n)) (choice m))

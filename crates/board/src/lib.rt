@@ -6,7 +6,7 @@ ghost use Rattle.rules.specs.Rules.{choice as chosen, outcome};
 ghost use Rattle.nucleus.specs.View.{view, Consists};
 ghost use Rattle.image.specs.Longest.{longestImage};
 ghost use Rattle.image.specs.Locates.{Locates};
-ghost use Rattle.board.specs.Promise.{choiceCode, runs, declined, acted as actedOn, badCode, stepOn, Boards, unplayed, replayOn, Replays, freshOn};
+ghost use Rattle.board.specs.Promise.{declined, acted as actedOn, badCode, stepOn, Boards, unplayed, replayOn, Replays, freshOn};
 use image::save::Saved;
 use journal::Read;
 use nucleus::State;
@@ -40,29 +40,6 @@ pub struct Brought {
     pub length: u16,
 }
 
-fn choice_code(x: Choice) -> u8
-    ensures { λ r. ⌜ r ≡ choiceCode x ⌝ }
-{
-    match x {
-        Choice::Run(_) => 0,
-        Choice::Halt => 1,
-        Choice::Wait => 2,
-        Choice::Stuck => 3,
-    }
-}
-
-// The number that runs.
-fn next_of(x: Choice) -> u8
-    ensures { λ r. ⌜ r ≡ runs x ⌝ }
-{
-    match x {
-        Choice::Run(n) => n.0,
-        Choice::Halt => rules::NOBODY,
-        Choice::Wait => rules::NOBODY,
-        Choice::Stuck => rules::NOBODY,
-    }
-}
-
 // An image's length fits in two bytes.
 fn narrow(n: usize) -> u16
     requires { ⌜ n ≤ longestImage ⌝ }
@@ -76,8 +53,8 @@ fn decline(code: u8, x: Choice) -> Told
 {
     Told {
         code: code,
-        choice: choice_code(x),
-        next: next_of(x),
+        choice: x.kind(),
+        next: x.runs().0,
         number: rules::NOBODY,
         length: 0,
     }
@@ -100,8 +77,8 @@ fn act(s: State, e: Event, out: &mut [u8]) -> Told
     let x = r.choice;
     Told {
         code: 0,
-        choice: choice_code(x),
-        next: next_of(x),
+        choice: x.kind(),
+        next: x.runs().0,
         number: r.number.0,
         length: narrow(saved.length),
     }
@@ -191,8 +168,8 @@ fn unplay(code: u8, x: Choice) -> Brought
 {
     Brought {
         code: code,
-        choice: choice_code(x),
-        next: next_of(x),
+        choice: x.kind(),
+        next: x.runs().0,
         records: 0,
         bytes: 0,
         length: 0,
@@ -208,16 +185,16 @@ fn play(s: State, log: &[u8], out: &mut [u8]) -> Brought
         return unplay(logbook::NO_ROOM, s.choose());
     }
     let r = logbook::replay(s, log);
-    let t = r.state;
-    let saved = image::save::keep(t, out);
+    let last = r.state;
+    let saved = image::save::keep(last, out);
     if saved.code != 0 {
         return unplay(SHORT, s.choose());
     }
     let x = r.choice;
     Brought {
         code: r.code,
-        choice: choice_code(x),
-        next: next_of(x),
+        choice: x.kind(),
+        next: x.runs().0,
         records: r.records,
         bytes: r.bytes,
         length: narrow(saved.length),

@@ -32,11 +32,11 @@ same-length c = search needs
 returns-2 : tie.Need-returns-2
 returns-2 c = act-short (view (c .before .before .before .before .before .before .before .before .before .before .before .before .before .args .s)) _ (c .before .before .before .before .before .before .before .before .before .before .before .before .before .args .out .now) (c .before .before .before .before .before .before .before .before .before .before .before .act .ensures) (c .before .before .before .before .before .before .before .before .before .if1 .left) (c .before .before .before .before .before .before .keep .ensures) (c .before .before .if2 .taken) (c .before .choose2 .ensures) (c .decline2 .ensures)
 
-choice-code-requires : tie.Need-choice-code-requires
-choice-code-requires c κs = search needs
+kind-requires : tie.Need-kind-requires
+kind-requires c κs = search needs
 
-next-of-requires : tie.Need-next-of-requires
-next-of-requires c κs = search needs
+runs-requires : tie.Need-runs-requires
+runs-requires c κs = search needs
 
 narrow-requires : tie.Need-narrow-requires
 narrow-requires c κs = save-short (c .before .before .before .before .before .before .before .before .before .before .before .act .ensures .state) (c .before .before .before .before .before .before .keep .ensures)
@@ -45,7 +45,7 @@ same-length-2 : tie.Need-same-length-2
 same-length-2 c = search needs
 
 returns-3 : tie.Need-returns-3
-returns-3 c = act-done (view (c .before .before .before .before .before .before .before .before .before .before .before .before .before .before .args .s)) _ (c .before .before .before .before .before .before .before .before .before .before .before .before .before .before .args .out .now) (c .before .before .before .before .before .before .before .before .before .before .before .before .act .ensures) (c .before .before .before .before .before .before .before .before .before .before .if1 .left) (c .before .before .before .before .before .before .before .keep .ensures) (c .before .before .before .if2 .left) (c .before .before .choice-code .ensures) (c .before .next-of .ensures) (c .narrow .ensures)
+returns-3 c = act-done (view (c .before .before .before .before .before .before .before .before .before .before .before .before .before .before .args .s)) _ (c .before .before .before .before .before .before .before .before .before .before .before .before .before .before .args .out .now) (c .before .before .before .before .before .before .before .before .before .before .before .before .act .ensures) (c .before .before .before .before .before .before .before .before .before .before .if1 .left) (c .before .before .before .before .before .before .before .keep .ensures) (c .before .before .before .if2 .left) (c .before .before .kind .ensures) (c .before .runs .ensures) (c .narrow .ensures)
 
 pub act-spec : {M : Type 1} → statement M
 act-spec =
@@ -60,8 +60,8 @@ act-spec =
     decline-requires-2
     same-length
     returns-2
-    choice-code-requires
-    next-of-requires
+    kind-requires
+    runs-requires
     narrow-requires
     same-length-2
     returns-3)

@@ -31,11 +31,11 @@ same-length c = search needs
 returns-2 : tie.Need-returns-2
 returns-2 c = play-short (c .before .before .before .before .before .before .before .before .before .before .before .before .before .args .s) (c .before .before .before .before .before .before .before .before .before .before .before .before .before .args .log .now) (c .before .before .before .before .before .before .before .before .before .before .before .before .before .args .out .now) (c .before .before .before .before .before .before .before .before .before .before .before .before .before .pre) (c .before .before .before .before .before .before .before .before .before .before .if1 .left) (c .before .before .before .before .before .before .before .before .before .replay .ensures) (c .before .before .before .before .before .before .keep .ensures) (c .before .before .if2 .taken) (c .before .choose2 .ensures) (c .unplay2 .ensures)
 
-choice-code-requires : tie.Need-choice-code-requires
-choice-code-requires c κs = search needs
+kind-requires : tie.Need-kind-requires
+kind-requires c κs = search needs
 
-next-of-requires : tie.Need-next-of-requires
-next-of-requires c κs = search needs
+runs-requires : tie.Need-runs-requires
+runs-requires c κs = search needs
 
 narrow-requires : tie.Need-narrow-requires
 narrow-requires c κs = save-short (plays-shows (c .before .before .before .before .before .before .before .before .before .before .before .before .before .args .s) (c .before .before .before .before .before .before .before .before .before .before .before .before .before .args .log .now) (c .before .before .before .before .before .before .before .before .before .before .before .before .before .args .out .now) (c .before .before .before .before .before .before .before .before .before .before .before .before .before .pre) (c .before .before .before .before .before .before .before .before .before .before .if1 .left) (c .before .before .before .before .before .before .before .before .before .replay .ensures)) (c .before .before .before .before .before .before .keep .ensures)
@@ -44,7 +44,7 @@ same-length-2 : tie.Need-same-length-2
 same-length-2 c = search needs
 
 returns-3 : tie.Need-returns-3
-returns-3 c = play-done (c .before .before .before .before .before .before .before .before .before .before .before .before .before .before .args .s) (c .before .before .before .before .before .before .before .before .before .before .before .before .before .before .args .log .now) (c .before .before .before .before .before .before .before .before .before .before .before .before .before .before .args .out .now) (c .before .before .before .before .before .before .before .before .before .before .before .before .before .before .pre) (c .before .before .before .before .before .before .before .before .before .before .before .if1 .left) (c .before .before .before .before .before .before .before .before .before .before .replay .ensures) (c .before .before .before .before .before .before .before .keep .ensures) (c .before .before .before .if2 .left) (c .before .before .choice-code .ensures) (c .before .next-of .ensures) (c .narrow .ensures)
+returns-3 c = play-done (c .before .before .before .before .before .before .before .before .before .before .before .before .before .before .args .s) (c .before .before .before .before .before .before .before .before .before .before .before .before .before .before .args .log .now) (c .before .before .before .before .before .before .before .before .before .before .before .before .before .before .args .out .now) (c .before .before .before .before .before .before .before .before .before .before .before .before .before .before .pre) (c .before .before .before .before .before .before .before .before .before .before .before .if1 .left) (c .before .before .before .before .before .before .before .before .before .before .replay .ensures) (c .before .before .before .before .before .before .before .keep .ensures) (c .before .before .before .if2 .left) (c .before .before .kind .ensures) (c .before .runs .ensures) (c .narrow .ensures)
 
 pub play-spec : {M : Type 1} → statement M
 play-spec =
@@ -59,8 +59,8 @@ play-spec =
     unplay-requires-2
     same-length
     returns-2
-    choice-code-requires
-    next-of-requires
+    kind-requires
+    runs-requires
     narrow-requires
     same-length-2
     returns-3)
