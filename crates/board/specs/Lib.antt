@@ -2,3 +2,4 @@ pub mod Promise
 pub mod Answers
 pub mod Once
 pub mod Runs
+pub mod Back

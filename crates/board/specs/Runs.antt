@@ -1,5 +1,5 @@
 -- A BOARD THAT RUNS: from the fresh image, any records handed over one after the other, each with the image that the last accepted call gave and a buffer with
--- room. The images are those of the rules' states for that history, and codes, choices and numbers are the rules'. So the C side need believe nothing else.
+-- room. The images are those of the rules' states for that history, and codes, choices and numbers are the rules'. After a power failure: Back.antt.
 use mathlib.Core.Path.{_≡_, refl, sym, ap, ap₂, subst, _∙_}
 use mathlib.Core.Logic.{_≢_}
 use mathlib.Core.List.{List, [], _∷_, _++_}
@@ -154,14 +154,15 @@ heard-consistent m PastEnd size C f = C
 pub record Ran (m : Model) (recs : List (List ℕ)) (ts : List Told) (last : List ℕ) : Type 0 where
   pub image : last ≡ encode (after (history recs) m)
   pub answers : ts ≡ allSaid m recs
+  pub consistent : Consistent (after (history recs) m)
 
 ran : {image last : List ℕ} {recs : List (List ℕ)} {ts : List Told} (m : Model) → Consistent m → encode m ≡ image → Calls image recs ts last → Ran m recs ts last
-ran m C e over = record { image = sym e; answers = refl }
+ran m C e over = record { image = sym e; answers = refl; consistent = C }
 ran m C e (accepted {rec = rec} {recs = recs} b h k z rest) =
     let s = step-on m C e b h k in
     let n : Model = after (eventsOf rec) m in
     let r = ran n (heard-consistent m (readAt rec 0) (length rec) C (λ e n q. read-whole rec 0 e n b q .fits)) (sym (s .image z)) rest in
-    record { image = r .image ∙ ap encode (sym (after-append (eventsOf rec) (history recs) m)); answers = ap₂ (λ (t : Told) (ts : List Told). t ∷ ts) (s .same) (r .answers) }
+    record { image = r .image ∙ ap encode (sym (after-append (eventsOf rec) (history recs) m)); answers = ap₂ (λ (t : Told) (ts : List Told). t ∷ ts) (s .same) (r .answers); consistent = rw (after-append (eventsOf rec) (history recs) m) (r .consistent) }
 ran m C e (refused {rec = rec} {recs = recs} b h k z rest) =
     let s = step-on m C e b h k in
     let q = s .still z .0 in
@@ -169,6 +170,7 @@ ran m C e (refused {rec = rec} {recs = recs} b h k z rest) =
     record {
       image = r .image ∙ ap (λ (x : Model). encode (after (history recs) x)) (sym q) ∙ ap encode (sym (after-append (eventsOf rec) (history recs) m));
       answers = ap₂ (λ (t : Told) (ts : List Told). t ∷ ts) (s .same) (r .answers ∙ ap (λ (x : Model). allSaid x recs) (sym q));
+      consistent = rw (after-append (eventsOf rec) (history recs) m, q) (r .consistent);
     }
 
 -- ---- a refused call changes nothing, whatever the buffer

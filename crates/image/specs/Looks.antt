@@ -4,7 +4,7 @@ use mathlib.Core.Logic.{_≢_}
 use mathlib.Core.List.{List}
 use Prim.Native.Nat.{ℕ, _+_, _≤_}
 use native.Mathlib.Omega.{arith}
-use lib.ListN.{length, take, drop}
+use lib.ListN.{length, take, drop, length-take, length-drop}
 use Rattle.rules.specs.Model.{Empty, thread}
 use Rattle.image.specs.Format.{bodyOf}
 use Rattle.image.specs.Finds.{place-is, offset-is}
@@ -12,8 +12,8 @@ use Rattle.image.specs.Entry.{bodyAt}
 use Rattle.image.specs.Injective.{encode-injective}
 use Rattle.image.specs.Accepts.{refuses-not}
 use Rattle.image.specs.Locates.{Spotted, Absent, Locates, spotted, missing, unread}
-use Rattle.image.specs.Locating.{alive, spotted-image, spotted-lives, locate-body, locate-within}
-use Rattle.image.specs.Sees.{Found, Sees, found, absent, refused}
+use Rattle.image.specs.Locating.{alive, spotted-image, spotted-lives, locate-body, locate-within, locate-one}
+use Rattle.image.specs.Sees.{Found, Sees, found, absent, refused, Lies}
 
 -- ---- what was located is seen
 
@@ -40,6 +40,10 @@ pub locate-sees : {s : List ℕ} {n c o l : ℕ} → Locates s n c o l → Sees 
 locate-sees (spotted F z) = found (sees-found F (locate-within (spotted F z)))
 locate-sees {s} {o = o} (missing A z f g) = absent A (ap (λ (x : ℕ). take x (drop o s)) g)
 locate-sees {s} {o = o} (unread R f g) = refused (λ m C e. refuses-not R (m, C, e)) (ap (λ (x : ℕ). take x (drop o s)) g)
+
+-- it is as long as was said
+pub part-long : {s : List ℕ} {n c o l : ℕ} → Locates s n c o l → length (take l (drop o s)) ≡ l
+part-long {s} {o = o} {l = l} L = let h = locate-within L in let a = length-take l (drop o s) in let b = length-drop o s in omega arith
 
 -- ---- one part
 
@@ -68,3 +72,9 @@ look-one (absent A x) (refused g y) = x ∙ sym y
 look-one (refused f x) (found G) = absurd (f (G .m) (G .consistent) (G .image))
 look-one (refused f x) (absent B y) = x ∙ sym y
 look-one (refused f x) (refused g y) = x ∙ sym y
+
+-- and they lie at one place
+pub lies-one : {s : List ℕ} {n : ℕ} {base at at′ : ℕ × ℕ} {a b : List ℕ} → Lies s n base at a → Lies s n base at′ b → (at .0 ≡ at′ .0) × (at .1 ≡ at′ .1)
+lies-one {base = base} A B =
+    let e = locate-one (A .located) (B .located) .offset-same in
+    (A .block ∙ sym (B .block), A .from ∙ ap (λ (o : ℕ). base .1 + o) e ∙ sym (B .from))

@@ -1,7 +1,7 @@
 -- Saving and loading undo each other: load gives back the state that was saved, and saving what load accepted gives back the bytes. Assumes nothing.
-use mathlib.Core.Path.{_≡_, refl, sym, _∙_}
+use mathlib.Core.Path.{_≡_, refl, sym, subst, _∙_}
 use mathlib.Core.List.{List, _++_}
-use Prim.Native.Nat.{ℕ}
+use Prim.Native.Nat.{ℕ, _≤_}
 use native.Mathlib.Omega.{arith}
 use lib.ListN.{length, take, drop}
 use lib.Seq.{take-at}
@@ -14,8 +14,14 @@ use Rattle.image.specs.Loads.{Loads, good-head, bad-head, foreign, accep
 use Rattle.image.specs.Accepts.{accepts, loads-back}
 use Rattle.image.specs.declared.Loaded.{Loaded}
 
+-- with room for its image, a consistent state is saved with code 0
+pub saves-well : {s : State} {before a : List ℕ} {c n : ℕ} → Consists s → length (encode (view s)) ≤ length before → Saves s before c n a → (c ≡ 0) × Saves s before 0 n a
+saves-well k h (inconsistent n g) = absurd (n k)
+saves-well k h (short l i g) = absurd (omega arith)
+saves-well {s} {before} {a} {c} {n} k h (saved l i g) = (g .code-is, subst (λ (x : ℕ). Saves s before x n a) (g .code-is) (saved l i g))
+
 -- what was saved with code 0: the image, at the front of the buffer
-front-image : {t : State} {before a : List ℕ} {n : ℕ} → Saves t before 0 n a → Consists t × (encode (view t) ≡ take n a)
+pub front-image : {t : State} {before a : List ℕ} {n : ℕ} → Saves t before 0 n a → Consists t × (encode (view t) ≡ take n a)
 front-image (inconsistent k g) = let e = g .code-is in absurd (omega arith)
 front-image (short k h g) = let e = g .code-is in absurd (omega arith)
 front-image {t} {before} (saved k h g) =

@@ -10,7 +10,7 @@ use Rattle.rules.specs.Consistent.{Consistent}
 use Rattle.image.specs.Format.{bodyOf, encode}
 use Rattle.image.specs.Entry.{entryAt, bodyAt}
 use Rattle.image.specs.Loads.{Foreign}
-use Rattle.image.specs.Locates.{Absent}
+use Rattle.image.specs.Locates.{Absent, Locates}
 
 -- the bytes are the image of m, in which the number n lives at `place`; and the part is the body of that place, and stands where its entry says
 pub record Found (s : List ℕ) (n : ℕ) (part : List ℕ) : Type 0 where
@@ -30,3 +30,11 @@ pub data Sees (s : List ℕ) (n : ℕ) (part : List ℕ) : Type 0 where
   found : Found s n part → Sees s n part
   absent : Absent s n → part ≡ [] → Sees s n part
   refused : Foreign s → part ≡ [] → Sees s n part
+
+-- and where it lies: in the image lent, at the offset that locating gives. (Two threads may have equal bodies: the bytes alone do not tell whose part it is.)
+pub record Lies (s : List ℕ) (n : ℕ) (base at : ℕ × ℕ) (part : List ℕ) : Type 0 where
+  pub code : ℕ
+  pub offset : ℕ
+  pub located : Locates s n code offset (length part)
+  pub block : at .0 ≡ base .0
+  pub from : at .1 ≡ base .1 + offset

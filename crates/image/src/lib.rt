@@ -1,7 +1,8 @@
 // The image of a state: saved into a lent buffer, loaded from any bytes, and a thread's part of it looked up by number.
+ghost use denote.Ref.{ptr};
 ghost use Rattle.image.specs.Loads.{Loads};
 ghost use Rattle.image.specs.Locates.{Locates};
-ghost use Rattle.image.specs.Sees.{Sees};
+ghost use Rattle.image.specs.Sees.{Sees, Lies};
 use nucleus::State;
 use rules::Number;
 
@@ -46,7 +47,7 @@ pub fn locate(image: &[u8], n: Number) -> Part
 // The body of the thread with the number n, with its inbox: a part of the caller's own image. An empty part where load refuses the image, or nobody in it
 // has the number.
 pub fn look_up(image: &[u8], n: Number) -> &[u8]
-    ensures { λ r. ⌜ Sees (now (image .entry)) (n .0) (now r) ⌝ }
+    ensures { λ r. ⌜ Sees (now (image .entry)) (n .0) (now r) × Lies (now (image .entry)) (n .0) (ptr (image .entry)) (ptr r) (now r) ⌝ }
 {
     let part = look::part_of(image, n.0);
     let from = part.offset;

@@ -110,7 +110,7 @@ cut-parts k (e ∷ es) h =
     by-test (ltb k n) (λ t. cut-in k e es (ltb-true k n t) t) (λ t. cut-on k e es (ltb-false k n t) t (ih (ltb-false k n t)))
 
 -- ---- so what is read in it is what the cut leaves
-fit-whole : (k : ℕ) (es : List Event) → AllFit es → AllFit (wholeIn k es)
+pub fit-whole : (k : ℕ) (es : List Event) → AllFit es → AllFit (wholeIn k es)
 fit-whole k [] f = f
 fit-whole k (e ∷ es) f =
     let ih = fit-whole (k - length (recordOf e)) es (f .1) in

@@ -173,7 +173,7 @@ module _ {s s₀ t : State} {log end : List ℕ} {q : ℕ} {es : List Event} (k 
       (shows-one (a .state) (left .state), a .code ∙ rw (eq-eqb (length (logOf es)) q (sym n)), a .records, a .bytes ∙ sym n)
 
 -- ---- and recording goes on
-log-append : (es fs : List Event) → logOf (es ++ fs) ≡ logOf es ++ logOf fs
+pub log-append : (es fs : List Event) → logOf (es ++ fs) ≡ logOf es ++ logOf fs
 log-append [] fs = refl
 log-append (e ∷ es) fs = ap (λ (l : List ℕ). recordOf e ++ l) (log-append es fs) ∙ sym (append-assoc (recordOf e) (logOf es) (logOf fs))
 

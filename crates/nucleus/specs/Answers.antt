@@ -38,7 +38,8 @@ meets {s} {w = w} {o = o} e x z t f y =
     let u : Ran (deskOf s) (s .blocks) (s .words) (s .lines) e o _ w _ = rw z at t in
     rw y (record { state = record { consists = u .stands; seen = u .seen }; code = u .code; choice = f w ∙ ap choice (u .seen); number = u .number })
 
-meets-one : {o : Outcome} {r t : Reply} → Meets o r → Meets o t → r ≡ t
+-- two replies to one outcome are equal
+pub meets-one : {o : Outcome} {r t : Reply} → Meets o r → Meets o t → r ≡ t
 meets-one a b =
     let s = shows-one (a .state) (b .state) in
     let c = a .code ∙ sym (b .code) in

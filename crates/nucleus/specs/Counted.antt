@@ -48,7 +48,7 @@ counted-code =
     every (λ c. found c ≡ c .seen) (λ c. (r z : Reply) → Meets (begun (c .start)) r → Plays r (c .events) z → shownBy z (c .place) ≡ c .seen)
     (λ c e r z m k. plays-out (begun (c .start)) (c .place) m k ∙ e) cases (each found (λ c. c .seen) cases counted)
 
--- and there is such a state to begin with: every case starts from a consistent model
+-- and every case starts from a consistent model, so that there is a state to begin with (`State::fresh`, or one that load gives: `loads-back` of the image)
 
 gave-consistent : (m : Model) (n : ℕ) → n ≤ lastNumber → Consistent m → Consistent (gave n m)
 gave-consistent m n h C = record {

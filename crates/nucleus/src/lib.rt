@@ -1,4 +1,5 @@
-// The nucleus: the state of the cab's threads, and its public operations. None of them asks anything of its caller.
+// The nucleus: the state of the cab's threads, and its public operations. None of them asks anything of its caller; only `choose` and `act`, which are for a
+// state that was tested, do.
 ghost use mathlib.Core.Path.{_≡_};
 ghost use Rattle.lists.specs.Lists.{none};
 ghost use Rattle.lists.specs.Tells.{Tells};

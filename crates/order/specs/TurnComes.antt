@@ -7,7 +7,7 @@ use mathlib.Core.List.{List, [], _∷_}
 use mathlib.Core.Bool.{Bool, true, false, cond, not}
 use native.Mathlib.Decide.{ℕ-discrete}
 use native.Mathlib.Omega.{arith}
-use lib.ListN.{take}
+use lib.ListN.{take, drop}
 use lib.Seq.{getD-set-same}
 use lib.Dec.{eqb}
 use borrow.Author.Tests.{eqb-true, eqb-false, eq-eqb, ne-eqb}
@@ -22,7 +22,7 @@ use Rattle.rules.specs.declared.Event.{Event}
 use Rattle.rules.specs.declared.Event.the-variants.{Create, Send, Receive, Reply, End, WaitClock, SliceEnd, Tick}
 use Rattle.rules.specs.declared.Choice.the-variants.{Run}
 use Rattle.order.specs.Sound.{Sound, small, sound}
-use Rattle.order.specs.Places.{elsewhere, lives-at, at-lives, not-in-use}
+use Rattle.order.specs.Places.{elsewhere, placed, lives-at, at-lives, not-in-use}
 use Rattle.order.specs.Ahead.{ahead, ahead-past}
 use Rattle.order.specs.Moves.{beside, here, Waits}
 use Rattle.order.specs.Dispatch.{dispatch-kept}
@@ -54,20 +54,25 @@ abbrev pub slices : List Event → Model → ℕ
 slices [] m = 0
 slices (e ∷ es) m = acting e m + slices es (next e m)
 
--- the turn of n has come, and the choice is to run it; or n is not live
-abbrev pub Come : ℕ → Model → Type 0
-Come n m = (choice m ≡ Run (record { 0 = n })) ⊎ (notLive m n ≡ true)
+-- the first of these events is an end of n, and is not refused
+abbrev pub Ends : ℕ → List Event → Model → Type 0
+Ends n [] m = ⊥
+Ends n (e ∷ es) m = (e ≡ End (record { 0 = n })) × (refusal e m ≡ 0)
 
--- it is so once an event has come before which at most k slice ends acted: at the latest the (k + 1)th that acts
+-- the turn of n has come, and the choice is to run it; or this event ended it, and nobody has its number now
+abbrev pub Come : ℕ → Type 0 → Model → Type 0
+Come n ends m = (choice m ≡ Run (record { 0 = n })) ⊎ (ends × (notLive m n ≡ true))
+
+-- it is so by an event before which at most k slice ends acted: at the latest by the (k + 1)th that acts
 abbrev pub Comes : ℕ → ℕ → List Event → Model → Type 0
-Comes n k es m = (i : ℕ) × (slices (take i es) m ≤ k) × Come n (after (take (suc i) es) m)
+Comes n k es m = (i : ℕ) × (slices (take i es) m ≤ k) × Come n (Ends n (drop i es) (after (take i es) m)) (after (take (suc i) es) m)
 
 -- ---- one event
 
 -- what an event worth c slice ends does to a thread that is queued behind k
-data Fate (m : Model) (p n k c : ℕ) : Type 0 where
-  now : Come n m → Fate m p n k c
-  later : (j : ℕ) → j + c ≤ k → Queued m p n j → Fate m p n k c
+data Fate (ends : Type 0) (m : Model) (p n k c : ℕ) : Type 0 where
+  now : Come n ends m → Fate ends m p n k c
+  later : (j : ℕ) → j + c ≤ k → Queued m p n j → Fate ends m p n k c
 
 -- it goes on waiting while the event acts
 queued-on : (m a : Model) (p n k : ℕ) → Queued m p n k → Waits m a p → Queued a p n k
@@ -77,12 +82,12 @@ queued-on m a p n k Q w = record {
   behind = let b = Q .behind in let i = w .1 in omega arith;
 }
 
-module _ (m : Model) (S : Sound m) (p n k : ℕ) (Q : Queued m p n k) where
+module _ (ends : Type 0) (m : Model) (S : Sound m) (p n k : ℕ) (Q : Queued m p n k) where
   is-place : p < places
   is-place = let st = Q .standing in small m S p (omega arith)
 
   -- the front of ready is started: it is the thread itself, or one ahead of it
-  started : (l : List ℕ) → line m ready ≡ l → Fate (starts l m) p n k 1
+  started : (l : List ℕ) → line m ready ≡ l → Fate ends (starts l m) p n k 1
   started [] e = absurd (let c : count p (line m ready) ≡ 1 = S .stood p ready ∙ rw (Q .standing) in let z : _≡_ {A = ℕ} 0 1 = rw e at c in omega arith)
   started (x ∷ l) e = elim (ℕ-discrete x p) [
     | yes z ↦
@@ -102,20 +107,21 @@ module _ (m : Model) (S : Sound m) (p n k : ℕ) (Q : Queued m p n k) where
   ]
 
   -- a thread that has come one nearer has come no further back
-  nearer : (a : Model) → Fate a p n k 1 → Fate a p n k 0
+  nearer : (a : Model) → Fate ends a p n k 1 → Fate ends a p n k 0
   nearer a (now s) = now s
   nearer a (later j h R) = later j (omega arith) R
 
-  dispatch-idle : m .running ≡ none → Fate (dispatched m) p n k 1
+  dispatch-idle : m .running ≡ none → Fate ends (dispatched m) p n k 1
   dispatch-idle e = rw (eq-eqb (m .running) none e) (started (line m ready) refl)
 
-  dispatch-any : Fate (dispatched m) p n k 0
+  dispatch-any : Fate ends (dispatched m) p n k 0
   dispatch-any = go (idle m) refl
     where
-      go : (b : Bool) → idle m ≡ b → Fate (cond b (starts (line m ready) m) m) p n k 0
+      go : (b : Bool) → idle m ≡ b → Fate ends (cond b (starts (line m ready) m) m) p n k 0
       go true e = nearer (starts (line m ready) m) (started (line m ready) refl)
       go false e = later k (omega arith) Q
 
+module _ (m : Model) (S : Sound m) (p n k : ℕ) (Q : Queued m p n k) where
   -- it is this thread that is ended: nobody has its number then
   ended : (t : Number) → Done (End t) m → placeOf m (t .0) ≡ p → notLive (dispatched (act (End t) m)) n ≡ true
   ended t D e =
@@ -133,13 +139,17 @@ module _ (m : Model) (S : Sound m) (p n k : ℕ) (Q : Queued m p n k) where
       ] in
       rw (not-in-use (dispatched a) n gone)
 
+  -- and the number that the event names is its own
+  named : (t : Number) → placeOf m (t .0) ≢ none → placeOf m (t .0) ≡ p → End t ≡ End (record { 0 = n })
+  named t h e = let z : t .0 ≡ n = sym (placed m (t .0) h .1) ∙ ap (λ (x : ℕ). thread m x .number) e ∙ Q .number in ap (λ (x : ℕ). End (record { 0 = x })) z
+
   -- or it goes on waiting
-  waits : (e : Event) → Accepted e m → Done e m → Waits m (act e m) p ⊎ (notLive (dispatched (act e m)) n ≡ true)
+  waits : (e : Event) → Accepted e m → Done e m → Waits m (act e m) p ⊎ ((e ≡ End (record { 0 = n })) × (notLive (dispatched (act e m)) n ≡ true))
   waits Create A D = inl (D .waits p (elsewhere m A p (let st = Q .standing in omega arith)) (Q .standing))
   waits (Send d w) A D = inl (D .waits p (Q .standing))
   waits (Receive x) A D = inl (D .waits p (Q .standing))
   waits (Reply t w) A D = inl (D .waits p (Q .standing))
-  waits (End t) A D = elim (ℕ-discrete (placeOf m (t .0)) p) [ yes e ↦ inr (ended t D e) | no z ↦ inl (D .waits p (λ y. z (sym y)) (Q .standing)) ]
+  waits (End t) A D = elim (ℕ-discrete (placeOf m (t .0)) p) [ yes e ↦ inr (named t A e, ended t D e) | no z ↦ inl (D .waits p (λ y. z (sym y)) (Q .standing)) ]
   waits WaitClock A D = inl (D .waits p (Q .standing))
   waits SliceEnd A D = inl (D .waits p (Q .standing))
   waits Tick A D = inl (D .waits p (Q .standing))
@@ -156,7 +166,7 @@ worth SliceEnd m = by-test (idle m) (λ e. inl (rw e)) (λ e. inr (refl, rw e, r
 worth Tick m = inl refl
 
 module _ (e : Event) (m : Model) (C : Consistent m) (f : Fits e) (p n k : ℕ) (Q : Queued m p n k) where
-  acted : refusal e m ≡ 0 → Fate (dispatched (act e m)) p n k (acting e m)
+  acted : refusal e m ≡ 0 → Fate (Ends n (e ∷ []) m) (dispatched (act e m)) p n k (acting e m)
   acted z = go (waits m (sound m C) p n k Q e A D) (worth e m)
     where
       A : Accepted e m
@@ -168,20 +178,20 @@ module _ (e : Event) (m : Model) (C : Consistent m) (f : Fits e) (p n k : ℕ) (
       S′ : Sound (act e m)
       S′ = acts-sound e m D
 
-      go : Waits m (act e m) p ⊎ (notLive (dispatched (act e m)) n ≡ true)
-          → (acting e m ≡ 0) ⊎ ((refusal e m ≡ 0) × (act e m .running ≡ none) × (acting e m ≡ 1)) → Fate (dispatched (act e m)) p n k (acting e m)
-      go (inl w) (inl v) = rw v (dispatch-any (act e m) S′ p n k (queued-on m (act e m) p n k Q w))
-      go (inl w) (inr v) = rw (v .2) (dispatch-idle (act e m) S′ p n k (queued-on m (act e m) p n k Q w) (v .1))
-      go (inr d) (inl v) = now (inr d)
-      go (inr d) (inr v) = now (inr d)
+      go : Waits m (act e m) p ⊎ ((e ≡ End (record { 0 = n })) × (notLive (dispatched (act e m)) n ≡ true))
+          → (acting e m ≡ 0) ⊎ ((refusal e m ≡ 0) × (act e m .running ≡ none) × (acting e m ≡ 1)) → Fate (Ends n (e ∷ []) m) (dispatched (act e m)) p n k (acting e m)
+      go (inl w) (inl v) = rw v (dispatch-any (Ends n (e ∷ []) m) (act e m) S′ p n k (queued-on m (act e m) p n k Q w))
+      go (inl w) (inr v) = rw (v .2) (dispatch-idle (Ends n (e ∷ []) m) (act e m) S′ p n k (queued-on m (act e m) p n k Q w) (v .1))
+      go (inr d) (inl v) = now (inr ((d .0, z), d .1))
+      go (inr d) (inr v) = now (inr ((d .0, z), d .1))
 
   refused : (refusal e m ≡ 0 → ⊥) → acting e m ≡ 0
   refused h = ⊎-elim (λ v. v) (λ v. absurd (h (v .0))) (worth e m)
 
-  fate : Fate (next e m) p n k (acting e m)
+  fate : Fate (Ends n (e ∷ []) m) (next e m) p n k (acting e m)
   fate = go (eqb (refusal e m) 0) refl
     where
-      go : (b : Bool) → eqb (refusal e m) 0 ≡ b → Fate (cond b (dispatched (act e m)) m) p n k (acting e m)
+      go : (b : Bool) → eqb (refusal e m) 0 ≡ b → Fate (Ends n (e ∷ []) m) (cond b (dispatched (act e m)) m) p n k (acting e m)
       go true z = acted (eqb-true _ _ z)
       go false z = let c = refused (eqb-false _ _ z) in later k (omega arith) Q
 
@@ -198,6 +208,6 @@ pub turn-comes : (es : List Event) (m : Model) → Consistent m → AllFit es �
 turn-comes [] m C f p n k Q h = absurd (omega arith)
 turn-comes (e ∷ es) m C f p n k Q h = go (fate e m C (f .0) p n k Q) (turn-comes es (next e m) (keeps e m C (f .0)) (f .1) p n)
   where
-    go : Fate (next e m) p n k (acting e m) → ((j : ℕ) → Queued (next e m) p n j → j < slices es (next e m) → Comes n j es (next e m)) → Comes n k (e ∷ es) m
+    go : Fate (Ends n (e ∷ []) m) (next e m) p n k (acting e m) → ((j : ℕ) → Queued (next e m) p n j → j < slices es (next e m) → Comes n j es (next e m)) → Comes n k (e ∷ es) m
     go (now s) rest = (0, omega arith, s)
     go (later j i R) rest = let w = rest j R (omega arith) in (suc (w .0), let b = w .1 in omega arith, w .2)

@@ -16,9 +16,9 @@ use Rattle.nucleus.specs.Settled.{shows-one}
 use Rattle.nucleus.specs.declared.State.{State}
 use Rattle.nucleus.specs.declared.Reply.{Reply}
 use Rattle.image.specs.Format.{encode}
-use Rattle.image.specs.Save.{Saves, inconsistent as untold, short, saved}
+use Rattle.image.specs.Save.{Saves}
 use Rattle.image.specs.Loads.{Loads}
-use Rattle.image.specs.RoundTrip.{saved-loads}
+use Rattle.image.specs.RoundTrip.{saves-well, saved-loads}
 use Rattle.image.specs.declared.Loaded.{Loaded}
 use Rattle.logbook.specs.Log.{limit, Parsed, recordsIn, logOf}
 use Rattle.logbook.specs.Promise.{Came, Replays, inconsistent, too-long, came}
@@ -36,12 +36,6 @@ stepped S stays = S
 stepped {m = m} S (steps {e = e} (held k a) rest) = stepped (record { consists = a .state .consists; seen = a .state .seen ∙ ap (next e) (S .seen) }) rest
 stepped S (steps (refused n a) rest) = absurd (n (S .consists))
 
--- with room for its image, a consistent state is saved with code 0
-saves-well : {s : State} {before a : List ℕ} {c n : ℕ} → Consists s → length (encode (view s)) ≤ length before → Saves s before c n a → Saves s before 0 n a
-saves-well k h (untold n g) = absurd (n k)
-saves-well k h (short l i g) = absurd (omega arith)
-saves-well {s} {before} {a} {c} {n} k h (saved l i g) = subst (λ (x : ℕ). Saves s before x n a) (g .code-is) (saved l i g)
-
 -- ---- what comes back
 -- es: the events before the save. whole: those recorded after it whose records are whole in the cut, of k bytes.
 pub record Back (es whole : List Event) (k : ℕ) (l : Loaded) (r : Replayed) : Type 0 where
@@ -52,20 +46,15 @@ pub record Back (es whole : List Event) (k : ℕ) (l : Loaded) (r : Replayed) : 
   pub bytes : r .bytes ≡ length (logOf whole)
   pub code : r .code ≡ cutCode k (length (logOf whole))
 
--- s₀ is fresh, and s after the events es; s is saved into a buffer with room, and the image is n bytes. From s on the events fs are recorded (those
--- refused with 11 left out), into a log that then reaches to q.
-module _ {s₀ s t : State} {es fs : List Event} {before image log end : List ℕ} {c n q : ℕ} (fresh₀ : Shows s₀ fresh) (step : Stepped s₀ es s)
+-- s is the state after the events es. It is saved into a buffer with room, and the image is n bytes. From s on the events fs are recorded (those refused
+-- with 11 left out), into a log that then reaches to q.
+module _ {s t : State} (es : List Event) {fs : List Event} {before image log end : List ℕ} {c n q : ℕ} (at-save : Shows s (after es fresh))
     (room : length (encode (after es fresh)) ≤ length before) (save : Saves s before c n image) (record₁ : Session s log 0 fs t end q) where
-  at-save : Shows s (after es fresh)
-  at-save = stepped fresh₀ step
-
   is-saved : Saves s before 0 n image
-  is-saved = saves-well (at-save .consists) (subst (λ (m : Model). length (encode m) ≤ length before) (sym (at-save .seen)) room) save
+  is-saved = saves-well (at-save .consists) (subst (λ (m : Model). length (encode m) ≤ length before) (sym (at-save .seen)) room) save .1
 
-  -- For every cut: exactly the rules' state after e₁.. and those later events whose records are whole in the cut (what `wholeIn` leaves of them is said
-  -- by `whole-front`: as many from the front as fit), with that many records and their bytes counted, and 0 between records or 12 inside one.
-  pub history : (k : ℕ) → k ≤ q → {l : Loaded} {r : Replayed} → Loads (take n image) l → Replays (l .state) (take k end) r → Back es (wholeIn k fs) k l r
-  history k h {l} {r} L R =
+  comes-back : (k : ℕ) → k ≤ q → {l : Loaded} {r : Replayed} → Loads (take n image) l → Replays (l .state) (take k end) r → Back es (wholeIn k fs) k l r
+  comes-back k h {l} {r} L R =
       let b = saved-loads is-saved L in
       let again : Shows (l .state) (view s) = subst (λ (x : State). Shows x (view s)) (sym (b .1)) (record { consists = at-save .consists; seen = refl }) in
       let a = replayed (at-save .consists) record₁ again k h R in
@@ -78,6 +67,31 @@ module _ {s₀ s t : State} {es fs : List Event} {before image log end : List �
         bytes = a .bytes;
         code = a .code;
       }
+
+-- ---- what a terminal has lived through: the events that have happened, and the state then
+pub data Lived : List Event → State → Type 0 where
+  -- it is fresh
+  born : {s : State} → Shows s fresh → Lived [] s
+  -- events come
+  went : {s t : State} {es fs : List Event} → Lived es s → Stepped s fs t → Lived (es ++ fs) t
+  -- it is saved, events are recorded, and the power fails at any byte of the log; then it is back
+  back : {s t : State} {es fs : List Event} {before image log end : List ℕ} {c n q k : ℕ} {l : Loaded} {r : Replayed} → Lived es s → length (encode (after es fresh)) ≤ length before
+      → Saves s before c n image → Session s log 0 fs t end q → k ≤ q → Loads (take n image) l → Replays (l .state) (take k end) r → Lived (es ++ wholeIn k fs) (r .state)
+
+-- it is the rules' state for those events, any number of power failures among them
+pub lived : {es : List Event} {s : State} → Lived es s → Shows s (after es fresh)
+lived (born S) = S
+lived (went {es = es} {fs = fs} L k) =
+    let S = stepped (lived L) k in
+    record { consists = S .consists; seen = S .seen ∙ sym (after-append es fs fresh) }
+lived (back {es = es} L room save record₁ h l r) = comes-back es (lived L) room save record₁ _ h l r .state
+
+-- For every cut of the recorded bytes: exactly the rules' state after e₁.. and those later events whose records are whole in the cut (what `wholeIn` leaves of
+-- them is said by `whole-front`: as many from the front as fit), with that many records and their bytes counted, and 0 between records or 12 inside one.
+module _ {s t : State} {es fs : List Event} {before image log end : List ℕ} {c n q : ℕ} (life : Lived es s)
+    (room : length (encode (after es fresh)) ≤ length before) (save : Saves s before c n image) (record₁ : Session s log 0 fs t end q) where
+  pub history : (k : ℕ) → k ≤ q → {l : Loaded} {r : Replayed} → Loads (take n image) l → Replays (l .state) (take k end) r → Back es (wholeIn k fs) k l r
+  history = comes-back es (lived life) room save record₁
 
 -- ---- half a record
 -- Behind whole records, half a record never acts: state, choice and counts are those of the log without it, and the code is 12 instead of 0.

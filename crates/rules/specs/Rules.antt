@@ -245,7 +245,7 @@ choice m =
     (cond (not (isNil (line m clock))) Wait Stuck))
 
 -- ---- When the nucleus says no: the first test that holds gives its code. Order: 14, 11, then 1, 2, 3, 4, 5 for an event. 14 is about states, which may
--- stand for no model that is consistent (crate `nucleus`), and 11 about logs (crate `journal`).
+-- stand for no model that is consistent (crate `nucleus`), and 11 about logs (crate `logbook`).
 
 infixr 5 _gives_else_
 abbrev pub _gives_else_ : Bool → Code → Code → Code

@@ -60,7 +60,7 @@ abbrev pub Filled : ℕ → List ℕ → Type 0
 Filled x b = x ≡ wordOf places (standsAt b)
 
 -- The desk and the arrays are a consistent nucleus: laid out in order, and of a consistent model. What lies in a line is in order, what does not is
--- clean (Tidy), and a clean place is clean in every row (Consistent, `clean`); so no two layouts have the same model (Rows, `settled`).
+-- clean (Tidy), and a clean place is clean in every row (Consistent, `clean`); so no two layouts have the same model (Rows; `settled` of the nucleus).
 pub record Stands (d : Desk) (b w l : List ℕ) : Type 0 where
   pub whole : Whole b w l
   pub filled : Filled (d .filled) b

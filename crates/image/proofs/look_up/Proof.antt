@@ -1,10 +1,10 @@
 -- `look_up` meets its contract: what was located lies in the image, and is what is to be seen. Assumes nothing.
 use borrow.Author.Needs.{needs}
-use mathlib.Core.Path.{_≡_}
+use mathlib.Core.Path.{_≡_, refl}
 use Prim.Native.Nat.{_+_, _-_}
 use native.Mathlib.Omega.{arith}
 use Rattle.image.specs.Locating.{locate-within}
-use Rattle.image.specs.Looks.{locate-sees}
+use Rattle.image.specs.Looks.{locate-sees, part-long}
 use Rattle.image.proofs.look_up.Statement.{statement}
 use Rattle.image.proofs.look_up.Tie as tie
 
@@ -27,7 +27,9 @@ returns : tie.Need-returns
 returns c =
     let r = c .before .before .part-of .result in
     let e : r .offset + r .length - r .offset ≡ r .length = omega arith in
-    rw e (locate-sees (c .before .before .part-of .ensures))
+    let L = c .before .before .part-of .ensures in
+    let z = part-long L in
+    rw e (locate-sees L, record { code = r .code; offset = r .offset; located = rw z L; block = refl; from = omega arith })
 
 pub look-up-spec : {M : Type 1} → statement M
 look-up-spec =
