@@ -1,4 +1,6 @@
 pub mod Tests
+pub mod Alone
 pub mod Judge
+pub mod Passes
 pub mod Loops
 pub mod Whole

@@ -4,12 +4,12 @@ use Prim.Native.Nat.{ℕ, _+_, _≤_, _<_}
 use mathlib.Core.Path.{_≡_}
 use mathlib.Core.Logic.{_≢_}
 use mathlib.Core.List.{List}
-use mathlib.Core.Bool.{Bool, true, false, cond, not, _&&_}
+use mathlib.Core.Bool.{Bool, true, cond, not, _&&_}
 use lib.ListN.{getD}
 use lib.Dec.{eqb, ltb}
 use Rattle.lists.specs.Lists.{none, bit, count}
 use Rattle.rules.specs.Values.{nobody}
-use Rattle.rules.specs.Model.{places, lastNumber, Empty, Running, Ready, Sending, Awaiting, Waiting, Thread, Model, ready, clock, inbox, lineCount, thread, line}
+use Rattle.rules.specs.Model.{places, lastNumber, Empty, Running, Ready, Sending, Awaiting, Waiting, Thread, Model, ready, clock, lineCount, thread, line}
 use Rattle.rules.specs.Rules.{idle, hears, isNil}
 use Rattle.rules.specs.Consistent.{isNumber, asTable, isAnswer}
 

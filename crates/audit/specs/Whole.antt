@@ -1,6 +1,6 @@
 -- The test as a whole: what its parts have told, put together.
-use Prim.Native.Nat.{ℕ, _+_, _*_, _^_, _≤_, _<_}
-use mathlib.Core.Path.{_≡_, refl, sym, ap, _∙_}
+use Prim.Native.Nat.{ℕ, _*_, _^_, _<_}
+use mathlib.Core.Path.{_≡_, sym, ap, _∙_}
 use mathlib.Core.List.{List, []}
 use mathlib.Core.Bool.{Bool, true, false, _&&_}
 use native.Mathlib.Decide.{decLt}
@@ -8,7 +8,7 @@ use native.Mathlib.Omega.{arith}
 use lib.ListN.{length, getD, List·getD-eq-default}
 use lib.Dec.{eqb}
 use borrow.Author.Tests.{eqb-true, eq-eqb}
-use Rattle.lists.specs.Lists.{none, bit, count, among, tab}
+use Rattle.lists.specs.Lists.{bit, tab}
 use Rattle.lists.specs.Laws.{never, and-left, and-right}
 use Rattle.lists.specs.Counts.{distinct-count, among-none}
 use Rattle.lists.specs.Tables.{length-tab}
@@ -17,14 +17,14 @@ use Rattle.lines.specs.Lines as Lines
 use Rattle.lines.specs.Lines.{lineOf, Tidy}
 use Rattle.lines.specs.Arrays.{once}
 use Rattle.lines.specs.Along.{no-place}
-use Rattle.filled.specs.Filled.{wordOf}
 use Rattle.rules.specs.Model.{places, lineCount, vacant}
 use Rattle.rules.specs.Consistent.{Consistent}
-use Rattle.table.specs.Cells.{cell, byteRows, wordRows, threadOf, modelOf, shown, Whole, standsAt, Filled, Stands}
+use Rattle.table.specs.Cells.{cell, byteRows, wordRows, threadOf, modelOf, shown, Filled, Stands}
 use Rattle.table.specs.Rows.{thread-at, line-at}
 use Rattle.table.specs.declared.Desk.{Desk}
-use Rattle.audit.specs.Tests.{placeTest, deskTest, Whereabouts, Index}
-use Rattle.audit.specs.Judge.{judged, passes, seated}
+use Rattle.audit.specs.Tests.{placeTest, deskTest, Whereabouts}
+use Rattle.audit.specs.Judge.{judged}
+use Rattle.audit.specs.Passes.{passes, seated}
 use Rattle.audit.specs.Loops.{Entered, Twice, Every, indexed, twice-not}
 
 -- every place passes, with an index of the numbers
@@ -47,7 +47,7 @@ module _ {x : ℕ} {b w at : List ℕ} where
     no = λ e. record {
       never = λ y l W C.
           let v = t .no e in
-          never (passes (modelOf y x b w l) (length-tab places (threadOf b w)) (length-tab lineCount (lineOf places l)) at who W (indexed y x w l k) C (v .0) (v .1)) (v .2);
+          never (passes (modelOf y x b w l) (length-tab places (threadOf b w)) at who W (indexed y x w l k) C (v .0) (v .1)) (v .2);
     };
   }
 

@@ -2,14 +2,13 @@
 // not. It goes once along every line and twice along the places, and keeps two arrays on the way: the line of each place, and the place of each number.
 ghost use mathlib.Core.Path.{_≡_};
 ghost use mathlib.Core.List.{List, []};
-ghost use Prim.Native.Nat.{ℕ, _+_, _^_, _<_, _≤_};
+ghost use Prim.Native.Nat.{ℕ, _+_, _^_, _<_};
 ghost use lib.ListN.{length, getD};
 ghost use Rattle.lists.specs.Tells.{Tells};
-ghost use Rattle.filled.specs.Filled.{wordOf};
 ghost use Rattle.lines.specs.Lines.{Tidy};
 ghost use Rattle.rules.specs.Model.{places, lineCount, thread};
 ghost use Rattle.rules.specs.Consistent.{asTable, isAnswer};
-ghost use Rattle.table.specs.Cells.{threadOf, modelOf, shown, standsAt, Filled, Stands, asThread};
+ghost use Rattle.table.specs.Cells.{modelOf, shown, Filled, Stands, asThread};
 ghost use Rattle.audit.specs.Tests.{isClean, fits as fitting, home as homeOf, runsAlone, unheard as quietTo, placeTest, deskTest};
 ghost use Rattle.audit.specs.Loops.{Entered, Twice, Every};
 ghost use Rattle.audit.specs.Whole.{Members, Strangers};

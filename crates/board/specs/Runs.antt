@@ -3,10 +3,10 @@
 use mathlib.Core.Path.{_≡_, refl, sym, ap, ap₂, subst, _∙_}
 use mathlib.Core.Logic.{_≢_}
 use mathlib.Core.List.{List, [], _∷_, _++_}
-use mathlib.Core.Bool.{true, false, cond}
-use Prim.Native.Nat.{ℕ, _≤_, _<_}
+use mathlib.Core.Bool.{cond}
+use Prim.Native.Nat.{ℕ, _≤_}
 use native.Mathlib.Omega.{arith}
-use borrow.Author.Tests.{eqb-true, eqb-false, eq-eqb, ne-eqb, le-ltb}
+use borrow.Author.Tests.{eqb-true, eqb-false, ne-eqb, le-ltb}
 use lib.Dec.{eqb, ltb}
 use lib.ListN.{length, take, drop}
 use lib.Seq.{take-at}
@@ -27,7 +27,7 @@ use Rattle.image.specs.Longest.{longestImage, longest}
 use Rattle.image.specs.Accepts.{refuses-not}
 use Rattle.image.specs.Injective.{encode-injective}
 use Rattle.logbook.specs.History.{after-append}
-use Rattle.board.specs.Promise.{placed, declined, acted, badCode, taken, stepOn, Boards, unloaded, stepped, freshOn}
+use Rattle.board.specs.Promise.{declined, acted, badCode, taken, stepOn, Boards, unloaded, stepped, freshOn}
 use Rattle.board.specs.declared.Told.{Told}
 
 -- ---- what the rules say of any bytes that are handed over as a record

@@ -2,12 +2,12 @@
 // output buffer is settled. include/rumqatiss.h says the same to those who write C.
 ghost use mathlib.Core.Path.{_≡_};
 ghost use Prim.Native.Nat.{_≤_};
-ghost use Rattle.rules.specs.Rules.{choice as chosen, outcome};
+ghost use Rattle.rules.specs.Rules.{outcome};
 ghost use Rattle.nucleus.specs.View.{view, Consists};
 ghost use Rattle.image.specs.Longest.{longestImage};
 ghost use Rattle.image.specs.Locates.{Locates};
 ghost use Rattle.board.specs.Promise.{declined, acted as actedOn, badCode, stepOn, Boards, unplayed, replayOn, Replays, freshOn};
-use image::save::Saved;
+use image::Saved;
 use journal::Read;
 use nucleus::State;
 use rules::Choice;
@@ -70,7 +70,7 @@ fn act(s: State, e: Event, out: &mut [u8]) -> Told
         return decline(r.code, s.choose());
     }
     let t = r.state;
-    let saved = image::save::keep(t, out);
+    let saved = image::keep(t, out);
     if saved.code != 0 {
         return decline(SHORT, s.choose());
     }
@@ -150,7 +150,7 @@ fn begin(out: &mut [u8]) -> Saved
     ensures { λ r. ⌜ ((r .code, r .length, now (out .exit)) ≡ freshOn (now (out .entry))) × (r .length ≤ longestImage) ⌝ }
 {
     let s = State::fresh();
-    image::save::keep(s, out)
+    image::keep(s, out)
 }
 
 // The image of the fresh state. The code is returned.
@@ -186,7 +186,7 @@ fn play(s: State, log: &[u8], out: &mut [u8]) -> Brought
     }
     let r = logbook::replay(s, log);
     let last = r.state;
-    let saved = image::save::keep(last, out);
+    let saved = image::keep(last, out);
     if saved.code != 0 {
         return unplay(SHORT, s.choose());
     }

@@ -41,8 +41,8 @@ fn hex_byte(b: u8) {
 
 // The image of a state.
 pub fn image_of(s: State) {
-    let mut buffer = [0u8; image::save::LONGEST];
-    let r = image::save::save(s, &mut buffer);
+    let mut buffer = [0u8; image::LONGEST];
+    let r = image::save(s, &mut buffer);
     hex_front(&buffer, r.length);
 }
 

@@ -22,13 +22,14 @@ use Rattle.order.specs.End.{endLast}
 use Rattle.order.specs.Order.{written}
 use Rattle.table.specs.Cells.{cell, shown, Stands}
 use Rattle.table.specs.Rows.{thread-at}
+use Rattle.table.specs.Stores.{Wrote}
+use Rattle.table.specs.Clean.{emptied}
 use Rattle.table.specs.declared.Desk.{Desk}
 use Rattle.events.specs.declared.Outcome.{Outcome}
-use Rattle.verbs.specs.Steps.{Steps, Turns}
+use Rattle.verbs.specs.Steps.{Steps, Turns, wrote}
 use Rattle.events.specs.Events.{Did, answered, filled-lives, refused, does, no-word}
 use Rattle.verbs.specs.Caller.{sounds}
 use Rattle.verbs.specs.Find.{found, found-is}
-use Rattle.verbs.specs.Seats.{Cleans}
 use Rattle.events.specs.Drain.{drains}
 use Rattle.events.specs.HandBack.{backs, handed-drained}
 use Rattle.events.specs.LetGo.{Lies, letFrom}
@@ -86,11 +87,11 @@ module _ {d : Desk} {b w l : List ℕ} {n p : ℕ} (k : Ends d b w l n p) where
           subst (λ (q : ℕ). q < places) (ap (λ (u : Thread). placeOf m (u .partner)) at ∙ found-is (d .last .0) (d .running .0) (getD b₂ (cell 2 p) 0) b₂ w₂ l₂) i
 
       -- it leaves its line, and its place is cleaned
-      pub ended : {e : Desk} {l₃ b₃ w₃ : List ℕ} → Leaves d b₂ l₂ p e l₃ → Cleans b₂ w₂ b₃ w₃ p → Turns d b w l e b₃ w₃ l₃ (end n)
+      pub ended : {e : Desk} {l₃ b₃ w₃ : List ℕ} → Leaves d b₂ l₂ p e l₃ → Wrote b₂ w₂ p emptied b₃ w₃ → Turns d b w l e b₃ w₃ l₃ (end n)
       ended {e} {l₃} u v =
           let m = shown d b w l in
           let x = u w₂ (t .whole) in
-          let y = v l₃ (x .whole) in
+          let y = wrote (x .whole) end-place v in
           record {
             whole = y .whole;
             filled = x .filled;

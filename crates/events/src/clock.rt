@@ -1,5 +1,4 @@
 // Events 6, 7 and 8: wait for the clock, slice end, tick.
-ghost use mathlib.Core.Path.{_≡_};
 ghost use Rattle.rules.specs.Model.{clock};
 ghost use Rattle.rules.specs.declared.Event.the-variants.{WaitClock, SliceEnd, Tick};
 ghost use Rattle.table.specs.Cells.{Whole, Stands};

@@ -128,7 +128,7 @@ fn end_at(b: &mut Blocks, w: &mut Words, l: &mut Links, d: Desk, n: Number, p: P
     hand_all_back(b, w, l, n, table::INBOX_LINES + p.0);
     let_go(b, w, l, n);
     let e = out_of_line(b, l, d, p);
-    verbs::clean(b, w, p);
+    table::clean(b, w, p);
     e
 }
 

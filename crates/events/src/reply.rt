@@ -1,5 +1,4 @@
 // Event 4: reply.
-ghost use mathlib.Core.Path.{_≡_};
 ghost use Rattle.rules.specs.Rules.{reply};
 ghost use Rattle.rules.specs.declared.Event.the-variants.{Reply};
 ghost use Rattle.table.specs.Cells.{Stands};

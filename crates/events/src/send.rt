@@ -1,5 +1,4 @@
 // Event 2: send.
-ghost use mathlib.Core.Path.{_≡_};
 ghost use Rattle.rules.specs.Rules.{send};
 ghost use Rattle.rules.specs.declared.Event.the-variants.{Send};
 ghost use Rattle.table.specs.Cells.{Stands};

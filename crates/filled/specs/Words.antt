@@ -1,6 +1,6 @@
 -- Words and the sets that they stand for: each set has a word, each word a set, and one only. Assumes nothing.
 use mathlib.Core.Path.{_≡_, refl, ap, _∙_}
-use mathlib.Core.Bool.{Bool, true, false}
+use mathlib.Core.Bool.{Bool, false}
 use Prim.Native.Nat.{ℕ, zero, suc, _+_, _/_, _%_, _^_, _<_}
 use native.Mathlib.Nat.{pow-suc}
 use native.Mathlib.Omega.{arith}
@@ -9,7 +9,7 @@ use lib.Dec.{eqb}
 use lib.Count.{ones, ones-step, ones-le}
 use Rattle.lists.specs.Lists.{bit, tally}
 use Rattle.lists.specs.Laws.{by-test}
-use Rattle.lists.specs.Tables.{bit-low}
+use Rattle.lists.specs.Tables.{bit-low, bit-same}
 use Rattle.filled.specs.Filled.{wordOf, inWord}
 
 pub word-below : (k : ℕ) (f : ℕ → Bool) → wordOf k f < 2 ^ k
@@ -30,12 +30,6 @@ word-ext (suc k) f g e =
     let b : bit (f zero) ≡ bit (g zero) = ap bit (e 0 (omega arith)) in
     let i = word-ext k (λ i. f (suc i)) (λ i. g (suc i)) (λ p h. e (suc p) (omega arith)) in
     omega arith
-
-bit-same : (a b : Bool) → bit a ≡ bit b → a ≡ b
-bit-same true true e = refl
-bit-same true false e = absurd (omega arith)
-bit-same false true e = absurd (omega arith)
-bit-same false false e = refl
 
 pub word-same : (k : ℕ) (f g : ℕ → Bool) → wordOf k f ≡ wordOf k g → (p : ℕ) → p < k → f p ≡ g p
 unfolding wordOf

@@ -9,13 +9,13 @@ use borrow.Author.Tests.{eq-eqb, ne-eqb}
 use lib.Dec.{eqb}
 use Rattle.lists.specs.Lists.{none}
 use Rattle.lists.specs.Bytes.{twoBytes}
+use Rattle.lists.specs.Laid.{Wrote, laid-none, laid-length, wrote-then}
 use Rattle.lines.specs.Lines.{lineOf, Tidy}
 use Rattle.rules.specs.Model.{Place, places, lineCount, Empty, Thread, Model, inbox, line, livesAt}
 use Rattle.table.specs.Cells.{threadOf}
 use Rattle.table.specs.Rows.{thread-at, line-at}
 use Rattle.image.specs.Format.{threadBytes, bodyOf, bodies, contents}
 use Rattle.image.specs.Longest.{longestImage, bodyLength}
-use Rattle.image.specs.Laid.{Wrote, laid-none, laid-length, wrote-then}
 use Rattle.image.specs.Parts.{held, here, bodyAt}
 
 -- the entry of p, if it lives, was written at a position, for a body at o; now the position is r, and the next body at u

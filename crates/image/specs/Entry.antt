@@ -10,11 +10,12 @@ use Rattle.lists.specs.Lists.{among, upFrom}
 use Rattle.lists.specs.Laws.{by-test, never, is-head, is-right, distinct-fore}
 use Rattle.lists.specs.Counts.{among-some}
 use Rattle.lists.specs.Search.{upFrom-within}
+use Rattle.lists.specs.Only.{only-not}
 use Rattle.lists.specs.Bytes.{twoAt}
 use Rattle.rules.specs.Model.{places, Model, inbox, thread, line, allPlaces, livesAt, live}
 use Rattle.image.specs.Format.{livePlaces}
 use Rattle.image.specs.Longest.{live-length}
-use Rattle.image.specs.Positions.{offset, live-distinct, only-not}
+use Rattle.image.specs.Positions.{offset, live-distinct}
 use Rattle.image.specs.Reading.{Image, threadIn}
 use Rattle.image.specs.Finds.{place-is, number-is, offset-is, thread-is, inbox-length, inbox-is}
 

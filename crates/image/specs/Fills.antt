@@ -1,17 +1,15 @@
 -- How far the reading has come: nothing has been read, one place more, all of them. Assumes nothing.
 use mathlib.Core.Path.{_≡_, refl, sym, ap, _∙_}
 use mathlib.Core.List.{List, [], _∷_, _++_}
-use mathlib.Core.Bool.{true, false, cond}
-use Prim.Native.Nat.{ℕ, zero, suc, _+_, _≤_, _<_}
+use mathlib.Core.Bool.{true, false}
+use Prim.Native.Nat.{ℕ, zero, suc, _≤_, _<_}
 use native.Mathlib.Omega.{arith}
 use lib.Dec.{eqb}
-use lib.ListN.{length, getD}
-use lib.Seq.{ext-getD}
 use borrow.Author.Tests.{eq-eqb, ne-eqb, eqb-true, eqb-false, not-false}
-use Rattle.lists.specs.Lists.{count, among, tab}
-use Rattle.lists.specs.Laws.{by-test}
+use Rattle.lists.specs.Lists.{count}
+use Rattle.lists.specs.Laws.{by-test, among-last}
 use Rattle.lists.specs.Counts.{count-self}
-use Rattle.lists.specs.Tables.{length-tab, getD-tab, tab-ext}
+use Rattle.lists.specs.Tables.{tab-ext, tab-of}
 use Rattle.lines.specs.Lines.{lineOf, Clear}
 use Rattle.rules.specs.Values.{nobody}
 use Rattle.rules.specs.Model.{places, lineCount, Empty, Thread, vacant, Model, inbox, thread, line, livesAt}
@@ -34,14 +32,6 @@ seats-none m k = record { sized = k .sized; threads = k .clean }
 
 -- ---- one place more
 
-among-last : (r p : ℕ) (qs : List ℕ) → among r (qs ++ (p ∷ [])) ≡ cond (eqb p r) true (among r qs)
-among-last r p [] = refl
-among-last r p (q ∷ qs) =
-    let ih = among-last r p qs in
-    by-test (eqb q r)
-    (λ e. rw e (by-test (eqb p r) (λ t. rw t) (λ t. rw t)))
-    (λ e. rw e ih)
-
 pub opened-here : (p : ℕ) (qs : List ℕ) → opened (qs ++ (p ∷ [])) (inbox p) ≡ true
 opened-here p qs = among-last p p qs ∙ rw (eq-eqb p p refl)
 
@@ -59,11 +49,6 @@ seats-more {m} {qs} {p = p} S W e = record {
 }
 
 -- ---- all of them
-
-pub tab-of : {A : Type 0} (d : A) (n : ℕ) (xs : List A) → length xs ≡ n → tab n (λ i. getD xs i d) ≡ xs
-tab-of d n xs e =
-    let v = length-tab n (λ i. getD xs i d) in
-    ext-getD d (tab n (λ i. getD xs i d)) xs (v ∙ sym e) (λ i h. getD-tab n (λ i. getD xs i d) i d (omega arith))
 
 module _ {m : Model} (C : Consistent m) where
   -- nobody sends to an empty place

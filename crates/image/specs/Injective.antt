@@ -1,16 +1,14 @@
 -- The format tells consistent models apart: all that a model has can be read off its image. Assumes nothing.
 use mathlib.Core.Path.{_≡_, refl, sym, ap, _∙_}
-use mathlib.Core.List.{List, [], _∷_}
+use mathlib.Core.List.{List, []}
 use mathlib.Core.Bool.{true}
 use Prim.Native.Nat.{ℕ, zero, suc, _+_, _*_, _<_}
 use native.Mathlib.Omega.{arith}
-use lib.Dec.{eqb}
-use lib.ListN.{length, take, drop, getD}
+use lib.ListN.{take, drop, getD}
 use lib.Seq.{ext-getD}
-use borrow.Author.Tests.{eqb-true}
 use Rattle.lists.specs.Lists.{among, tab}
-use Rattle.lists.specs.Laws.{by-test, never}
-use Rattle.lists.specs.Tables.{tab-ext}
+use Rattle.lists.specs.Laws.{by-test, among-at}
+use Rattle.lists.specs.Tables.{tab-ext, tab-of}
 use Rattle.rules.specs.Model.{places, lineCount, vacant, Model, ready, clock, inbox, thread, line, livesAt, live}
 use Rattle.rules.specs.Consistent.{Consistent}
 use Rattle.image.specs.Format.{livePlaces, encode}
@@ -19,17 +17,8 @@ use Rattle.image.specs.Positions.{live-in}
 use Rattle.image.specs.Reading.{Image}
 use Rattle.image.specs.Finds.{last-is, running-is, live-is, readies-is, clocks-is, ready-is, clock-is}
 use Rattle.image.specs.Entry.{p-is, entryAt, entry-thread, entry-inbox}
-use Rattle.image.specs.Fills.{tab-of, no-inbox, dead}
+use Rattle.image.specs.Fills.{no-inbox, dead}
 use Rattle.image.specs.Judges.{image-of}
-
--- who stands in a list stands somewhere in it
-pub among-at : (p : ℕ) (xs : List ℕ) → among p xs ≡ true → (i : ℕ) × (i < length xs) × (getD xs i 0 ≡ p)
-among-at p [] h = never h refl
-among-at p (x ∷ xs) h =
-    let ih = among-at p xs in
-    by-test (eqb x p)
-    (λ e. (zero, omega arith, eqb-true x p e))
-    (λ e. let w = ih (rw e at h) in (suc (w .0), omega (arith, w .1), w .2))
 
 -- a live place has an entry
 pub entry-of : {s : List ℕ} {m : Model} → Image s m → (p : ℕ) → p < places → livesAt m p ≡ true → (i : ℕ) × (i < live m) × (getD s (entryAt i) 0 ≡ p)

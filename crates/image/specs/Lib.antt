@@ -1,7 +1,5 @@
 pub mod Format
 pub mod Longest
-pub mod Laid
-pub mod Walk
 pub mod Lining
 pub mod Parts
 pub mod Entries

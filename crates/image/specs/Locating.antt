@@ -1,18 +1,17 @@
 -- Locating: what was found is what is promised, the body of the thread stands there, and there is one such answer. Assumes nothing.
 use mathlib.Core.Path.{_≡_, refl, sym, ap, ap₂, _∙_}
 use mathlib.Core.Logic.{_≢_}
-use mathlib.Core.List.{List, [], _∷_, _++_}
-use mathlib.Core.Bool.{true, false}
+use mathlib.Core.List.{List, _∷_, _++_}
+use mathlib.Core.Bool.{true}
 use Prim.Native.Nat.{ℕ, suc, _+_, _≤_, _<_}
 use native.Mathlib.Omega.{arith}
 use lib.ListN.{length, take, drop, getD}
 use lib.Seq.{take-at}
-use lib.Dec.{eqb}
-use borrow.Author.Tests.{eqb-false, not-true}
-use Rattle.lists.specs.Lists.{among, Distinct, front, rest}
-use Rattle.lists.specs.Laws.{not-head, not-tail, is-head, is-right, distinct-fore}
+use Rattle.lists.specs.Lists.{among, Distinct}
+use Rattle.lists.specs.Laws.{is-head, is-right, distinct-fore, fore-one}
 use Rattle.rules.specs.Model.{Empty, Model, thread, livesAt, live}
 use Rattle.order.specs.Sound.{sound, small}
+use Rattle.order.specs.Places.{lives-at}
 use Rattle.image.specs.Format.{livePlaces, bodyOf, bodies}
 use Rattle.image.specs.Positions.{offset, live-in, live-distinct}
 use Rattle.image.specs.Reading.{Image}
@@ -24,9 +23,6 @@ use Rattle.image.specs.Injective.{entry-of, encode-injective}
 use Rattle.image.specs.Accepts.{accepts, refuses-of, refuses-not, refuses-one}
 use Rattle.image.specs.Locates.{Spotted, Absent, Locates, spotted, missing, unread, Sought}
 use Rattle.image.specs.declared.Loaded.{Loaded}
-
-pub alive : (m : Model) (p : ℕ) → livesAt m p ≡ true → thread m p .standing ≢ Empty
-alive m p h = eqb-false (thread m p .standing) Empty (not-true (eqb (thread m p .standing) Empty) h)
 
 -- ---- the three ends
 
@@ -49,7 +45,7 @@ module _ {s : List ℕ} {n : ℕ} {r : Loaded} (L : Loads s r) where
           consistent = w .1;
           image = w .2;
           nobody = λ p l e.
-              let v = entry-of I p (small (w .0) (sound (w .0) (w .1)) p (alive (w .0) p l)) l in
+              let v = entry-of I p (small (w .0) (sound (w .0) (w .1)) p (lives-at (w .0) p l)) l in
               let g = live-is I in
               k .before (v .0) (omega (arith, v .1)) (n-is I (v .1) ∙ ap (λ (q : ℕ). thread (w .0) q .number) (sym (p-is I (v .1)) ∙ v .2) ∙ e);
         } in
@@ -107,13 +103,6 @@ locate-within (unread R f g) = omega arith
 
 -- ---- one answer
 
--- who stands in a list once has one list in front of it
-fore-one : (p : ℕ) (xs ys us vs : List ℕ) → among p xs ≡ false → among p ys ≡ false → xs ++ (p ∷ us) ≡ ys ++ (p ∷ vs) → xs ≡ ys
-fore-one p [] [] us vs h g e = refl
-fore-one p [] (y ∷ ys) us vs h g e = absurd (not-head p y ys g (sym (ap front e)))
-fore-one p (x ∷ xs) [] us vs h g e = absurd (not-head p x xs h (ap front e))
-fore-one p (x ∷ xs) (y ∷ ys) us vs h g e = ap₂ _∷_ (ap front e) (fore-one p xs ys us vs (not-tail p x xs h) (not-tail p y ys g) (ap rest e))
-
 pub record Same (c o l d p k : ℕ) : Type 0 where
   pub code-same : c ≡ d
   pub offset-same : o ≡ p
@@ -126,9 +115,9 @@ module _ {s : List ℕ} {n o l p k : ℕ} (F : Spotted s n o l) (G : Spotted s n
   place-same : F .place ≡ G .place
   place-same =
       let e = model-same in
-      let a : thread (G .m) (F .place) .standing ≢ Empty = rw e at (alive (F .m) (F .place) (spotted-lives F)) in
+      let a : thread (G .m) (F .place) .standing ≢ Empty = rw e at (lives-at (F .m) (F .place) (spotted-lives F)) in
       let v : thread (G .m) (F .place) .number ≡ n = rw e at (F .number) in
-      G .consistent .differ (F .place) (G .place) a (alive (G .m) (G .place) (spotted-lives G)) (v ∙ sym (G .number))
+      G .consistent .differ (F .place) (G .place) a (lives-at (G .m) (G .place) (spotted-lives G)) (v ∙ sym (G .number))
 
   before-same : F .before ≡ G .before
   before-same =

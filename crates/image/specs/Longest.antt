@@ -5,15 +5,16 @@ use mathlib.Core.List.{List, [], _∷_, _++_}
 use mathlib.Core.Bool.{Bool, true, false}
 use native.Mathlib.Omega.{arith}
 use lib.ListN.{length, length-append}
-use Rattle.lists.specs.Lists.{count, among, upFrom, tally, only}
+use Rattle.lists.specs.Lists.{count, among, upFrom, only}
 use Rattle.lists.specs.Laws.{by-test, not-append}
 use Rattle.lists.specs.Counts.{count-append, among-none, count-distinct}
 use Rattle.lists.specs.Without.{pigeon}
+use Rattle.lists.specs.Only.{only-few, only-tally}
 use Rattle.lists.specs.Tables.{bit-low, tally-ext}
 use Rattle.rules.specs.Model.{Place, places, Model, ready, clock, inbox, thread, line, allPlaces, livesAt, live}
 use Rattle.rules.specs.Consistent.{belongs, Consistent}
 use Rattle.order.specs.Sound.{Sound, sound}
-use Rattle.order.specs.Stood.{stands-at, stands-once}
+use Rattle.order.specs.Stood.{stands-once, no-place}
 use Rattle.image.specs.Format.{headLength, entryLength, livePlaces, bodyOf, bodies, contents, queues, firstBody, tail, head, encode}
 
 -- The longest is 584 bytes.
@@ -25,34 +26,14 @@ abbrev pub bodyLength : ℕ
 bodyLength = 13
 
 -- ---- the live places
-pub only-short : (f : ℕ → Bool) (xs : List ℕ) → length (only f xs) ≤ length xs
-only-short f [] = omega arith
-only-short f (x ∷ xs) = let i = only-short f xs in by-test (f x) (λ e. rw e (omega arith)) (λ e. rw e (omega arith))
-
-pub upFrom-length : (k n : ℕ) → length (upFrom k n) ≡ n
-upFrom-length k zero = refl
-upFrom-length k (suc n) = ap (λ (x : ℕ). suc x) (upFrom-length (suc k) n)
-
-only-tally : (f : ℕ → Bool) (k n : ℕ) → length (only f (upFrom k n)) ≡ tally n (λ i. f (k + i))
-unfolding tally
-only-tally f k zero = refl
-only-tally f k (suc n) =
-    let e : k + 0 ≡ k = omega arith in
-    let i : length (only f (upFrom (suc k) n)) ≡ tally n (λ i. f (k + suc i)) =
-    only-tally f (suc k) n ∙ tally-ext n (λ i. f (suc k + i)) (λ i. f (k + suc i)) (λ i h. ap f (omega arith)) in
-    by-test (f k) (λ t. rw (t, e, t) (omega arith)) (λ t. rw (t, e, t) (omega arith))
-
 -- the live count is how many there are
 pub live-length : (m : Model) → live m ≡ length (livePlaces m)
 unfolding allPlaces
 live-length m = sym (only-tally (livesAt m) 0 places ∙ tally-ext places (λ i. livesAt m (0 + i)) (livesAt m) (λ i h. ap (livesAt m) (omega arith)))
 
-only-few : (f : ℕ → Bool) (n : ℕ) → length (only f (upFrom 0 n)) ≤ n
-only-few f n = let a = only-short f (upFrom 0 n) in let b = upFrom-length 0 n in omega arith
-
 pub live-few : (m : Model) → length (livePlaces m) ≤ places
 unfolding allPlaces
-live-few m = only-few (livesAt m) places
+live-few m = only-few (livesAt m) 0 places
 
 -- ---- the parts
 -- all in the inboxes of these places
@@ -118,12 +99,9 @@ module _ (m : Model) (S : Sound m) where
       let j = once-more p (inbox k) (inboxes m (only f (upFrom (suc k) n))) (λ t. absent f p (inbox k) t (suc k) n (omega arith)) i in
       by-test (f k) (λ t. rw t j) (λ t. rw t i)
 
-  no-place : (q i : ℕ) → places ≤ i → among i (line m q) ≡ false
-  no-place q i h = by-test (among i (line m q)) (λ e. let s = stands-at m S i q e in absurd (omega arith)) (λ e. e)
-
   no-place-in : (ps : List Place) (i : ℕ) → places ≤ i → among i (inboxes m ps) ≡ false
   no-place-in [] i h = refl
-  no-place-in (p ∷ ps) i h = not-append i (line m (inbox p)) (inboxes m ps) (no-place (inbox p) i h) (no-place-in ps i h)
+  no-place-in (p ∷ ps) i h = not-append i (line m (inbox p)) (inboxes m ps) (no-place m S (inbox p) i h) (no-place-in ps i h)
 
   lines-upto : (f : ℕ → Bool) (n : ℕ) → length (line m ready) + length (line m clock) + length (inboxes m (only f (upFrom 0 n))) ≤ places
   lines-upto f n =
@@ -139,7 +117,7 @@ module _ (m : Model) (S : Sound m) where
       let b = length-append (line m clock) ins in
       let k =
       pigeon places (line m ready ++ (line m clock ++ ins))
-      (λ i h. not-append i (line m ready) (line m clock ++ ins) (no-place ready i h) (not-append i (line m clock) ins (no-place clock i h) (no-place-in (only f (upFrom 0 n)) i h)))
+      (λ i h. not-append i (line m ready) (line m clock ++ ins) (no-place m S ready i h) (not-append i (line m clock) ins (no-place m S clock i h) (no-place-in (only f (upFrom 0 n)) i h)))
       (count-distinct (line m ready ++ (line m clock ++ ins)) (λ p. once-more p ready (line m clock ++ ins) (clear p) (behind p))) in
       omega arith
 

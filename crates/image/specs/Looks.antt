@@ -6,13 +6,14 @@ use Prim.Native.Nat.{ℕ, _+_, _≤_}
 use native.Mathlib.Omega.{arith}
 use lib.ListN.{length, take, drop, length-take, length-drop}
 use Rattle.rules.specs.Model.{Empty, thread}
+use Rattle.order.specs.Places.{lives-at}
 use Rattle.image.specs.Format.{bodyOf}
 use Rattle.image.specs.Finds.{place-is, offset-is}
 use Rattle.image.specs.Entry.{bodyAt}
 use Rattle.image.specs.Injective.{encode-injective}
 use Rattle.image.specs.Accepts.{refuses-not}
 use Rattle.image.specs.Locates.{Spotted, Absent, Locates, spotted, missing, unread}
-use Rattle.image.specs.Locating.{alive, spotted-image, spotted-lives, locate-body, locate-within, locate-one}
+use Rattle.image.specs.Locating.{spotted-image, spotted-lives, locate-body, locate-within, locate-one}
 use Rattle.image.specs.Sees.{Found, Sees, found, absent, refused, Lies}
 
 -- ---- what was located is seen
@@ -51,9 +52,9 @@ module _ {s : List ℕ} {n : ℕ} {a b : List ℕ} where
   found-one : Found s n a → Found s n b → a ≡ b
   found-one F G =
       let e : F .m ≡ G .m = encode-injective (F .m) (G .m) (F .consistent) (G .consistent) (F .image ∙ sym (G .image)) in
-      let l : thread (G .m) (F .place) .standing ≢ Empty = rw e at (alive (F .m) (F .place) (F .lives)) in
+      let l : thread (G .m) (F .place) .standing ≢ Empty = rw e at (lives-at (F .m) (F .place) (F .lives)) in
       let v : thread (G .m) (F .place) .number ≡ n = rw e at (F .number) in
-      let p : F .place ≡ G .place = G .consistent .differ (F .place) (G .place) l (alive (G .m) (G .place) (G .lives)) (v ∙ sym (G .number)) in
+      let p : F .place ≡ G .place = G .consistent .differ (F .place) (G .place) l (lives-at (G .m) (G .place) (G .lives)) (v ∙ sym (G .number)) in
       F .body ∙ ap₂ bodyOf e p ∙ sym (G .body)
 
 found-not : {X : Type 0} {s : List ℕ} {n : ℕ} {a : List ℕ} → Found s n a → Absent s n → X

@@ -1,12 +1,12 @@
 -- The parts of an image, place by place, as the writer's loops go through them: what one place adds, and what is left from a place on.
-use Prim.Native.Nat.{ℕ, suc, _+_, _-_, _≤_, _<_}
+use Prim.Native.Nat.{ℕ, _+_, _-_, _≤_, _<_}
 use mathlib.Core.Path.{_≡_, refl, sym, ap, _∙_}
 use mathlib.Core.List.{List, [], _∷_, _++_, append-assoc}
-use mathlib.Core.Bool.{Bool}
 use native.Mathlib.Omega.{arith}
 use lib.ListN.{length, length-append}
 use Rattle.lists.specs.Lists.{none, upFrom, only}
-use Rattle.lists.specs.Laws.{by-test}
+use Rattle.lists.specs.Search.{upFrom-step}
+use Rattle.lists.specs.Only.{only-append}
 use Rattle.rules.specs.Model.{Place, places, Model, allPlaces, livesAt}
 use Rattle.table.specs.Cells.{modelOf}
 use Rattle.image.specs.Format.{livePlaces, bodyOf, bodies, contents, firstBody, tail}
@@ -38,16 +38,6 @@ abbrev pub tailIn : List ℕ → List ℕ → List ℕ → List ℕ
 tailIn b w l = tail (held b w l)
 
 -- ---- laws on the live places
-only-append : (f : ℕ → Bool) (xs ys : List ℕ) → only f (xs ++ ys) ≡ only f xs ++ only f ys
-only-append f [] ys = refl
-only-append f (x ∷ xs) ys = let ih = only-append f xs ys in by-test (f x) (λ t. rw (t, ih)) (λ t. rw (t, ih))
-
-upFrom-step : (n p : ℕ) → p < n → upFrom p (n - p) ≡ p ∷ upFrom (p + 1) (n - (p + 1))
-upFrom-step n p h =
-    let e : n - p ≡ suc (n - (p + 1)) = omega arith in
-    let i : suc p ≡ p + 1 = omega arith in
-    ap (upFrom p) e ∙ ap (λ (k : ℕ). p ∷ upFrom k (n - (p + 1))) i
-
 pub lives-start : (m : Model) → livesFrom m 0 ≡ livePlaces m
 unfolding livesFrom allPlaces
 lives-start m = refl

@@ -4,11 +4,11 @@ use mathlib.Core.Path.{_≡_, sym, ap, _∙_}
 use mathlib.Core.List.{List, _++_}
 use native.Mathlib.Omega.{arith}
 use lib.ListN.{length, length-append}
+use Rattle.lists.specs.Laid.{laid, Wrote, laid-length, Going, going-start, going-room, going-more, going-end}
 use Rattle.lines.specs.Lines.{Tidy}
 use Rattle.rules.specs.Model.{Place, places, lineCount, Model}
 use Rattle.image.specs.Format.{livePlaces, bodies, contents}
 use Rattle.image.specs.Longest.{longestImage}
-use Rattle.image.specs.Laid.{laid, Wrote, laid-length, Going, going-start, going-room, going-more, going-end}
 use Rattle.image.specs.Parts.{held, here, livesFrom, lives-start, lives-step, lives-end, bodies-append, contents-append}
 use Rattle.image.specs.Entries.{Enters, Entered}
 

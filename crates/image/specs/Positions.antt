@@ -1,17 +1,15 @@
 -- Where the parts of an image stand: the live places, the entries of the contents, the queues and the bodies. Assumes nothing.
 use mathlib.Core.Path.{_≡_, refl, sym, ap, _∙_}
-use mathlib.Core.List.{List, [], _∷_, _++_, append-assoc}
-use mathlib.Core.Bool.{Bool, true, false}
-use Prim.Native.Nat.{ℕ, zero, suc, _+_, _*_, _-_, _<_}
+use mathlib.Core.List.{List, _∷_, _++_, append-assoc}
+use Prim.Native.Nat.{ℕ, _+_, _*_, _<_}
 use native.Mathlib.Omega.{arith}
-use lib.Dec.{eqb}
 use lib.ListN.{length, take, drop, length-append}
 use lib.Seq.{drop-at, take-at, drop-append-add, drop-drop}
-use borrow.Author.Tests.{eqb-true}
-use Rattle.lists.specs.Lists.{among, Distinct, upFrom, only}
-use Rattle.lists.specs.Laws.{by-test, never, not-head, not-tail, not-cons, is-head, is-tail}
+use Rattle.lists.specs.Lists.{among, Distinct, upFrom}
+use Rattle.lists.specs.Laws.{by-test}
 use Rattle.lists.specs.Counts.{some-among}
-use Rattle.lists.specs.Search.{count-upFrom}
+use Rattle.lists.specs.Search.{upFrom-distinct, count-upFrom}
+use Rattle.lists.specs.Only.{only-out, only-in, only-distinct}
 use Rattle.lists.specs.Bytes.{twoBytes}
 use Rattle.rules.specs.Model.{places, Model, ready, clock, thread, line, allPlaces, livesAt, live}
 use Rattle.image.specs.Format.{livePlaces, bodyOf, bodies, contents, queues, firstBody, tail, head, encode}
@@ -19,44 +17,6 @@ use Rattle.image.specs.Longest.{live-length, contents-length}
 use Rattle.image.specs.Parts.{bodies-append, contents-append}
 
 -- ---- the live places
-
-module _ (f : ℕ → Bool) where
-  only-out : (p : ℕ) (xs : List ℕ) → f p ≡ false → among p (only f xs) ≡ false
-  only-out p [] h = refl
-  only-out p (x ∷ xs) h =
-      let ih = only-out p xs h in
-      by-test (f x)
-      (λ t. rw t (not-cons p x (only f xs) (λ e. never t (rw e h)) ih))
-      (λ t. rw t ih)
-
-  only-in : (p : ℕ) (xs : List ℕ) → f p ≡ true → among p xs ≡ true → among p (only f xs) ≡ true
-  only-in p [] h g = g
-  only-in p (x ∷ xs) h g =
-      let ih = only-in p xs h in
-      by-test (eqb x p)
-      (λ e. let z : x ≡ p = eqb-true x p e in let t : f x ≡ true = rw z h in rw t (is-head p x (only f xs) z))
-      (λ e. let i = ih (rw e at g) in by-test (f x) (λ t. rw t (is-tail p x (only f xs) i)) (λ t. rw t i))
-
-  pub only-not : (p : ℕ) (xs : List ℕ) → among p xs ≡ false → among p (only f xs) ≡ false
-  only-not p [] h = refl
-  only-not p (x ∷ xs) h =
-      let ih = only-not p xs (not-tail p x xs h) in
-      by-test (f x) (λ t. rw t (not-cons p x (only f xs) (not-head p x xs h) ih)) (λ t. rw t ih)
-
-  only-distinct : (xs : List ℕ) → Distinct xs → Distinct (only f xs)
-  only-distinct [] d = tt
-  only-distinct (x ∷ xs) d =
-      let ih = only-distinct xs (d .1) in
-      by-test (f x) (λ t. rw t (only-not x xs (d .0), ih)) (λ t. rw t ih)
-
-upFrom-low : (n k s : ℕ) → s < k → among s (upFrom k n) ≡ false
-upFrom-low zero k s h = refl
-upFrom-low (suc n) k s h = not-cons s k (upFrom (suc k) n) (λ e. omega arith) (upFrom-low n (suc k) s (omega arith))
-
-upFrom-distinct : (n k : ℕ) → Distinct (upFrom k n)
-upFrom-distinct zero k = tt
-upFrom-distinct (suc n) k = (upFrom-low n (suc k) k (omega arith), upFrom-distinct n (suc k))
-
 -- whoever lives stands there, and nobody else, and each once
 pub live-in : (m : Model) (p : ℕ) → p < places → among p (livePlaces m) ≡ livesAt m p
 unfolding allPlaces

@@ -5,12 +5,12 @@ use mathlib.Core.List.{List}
 use native.Mathlib.Omega.{arith}
 use lib.ListN.{length, take, drop, length-append}
 use lib.Seq.{length-take-le, take-at}
+use Rattle.lists.specs.Laid.{laid, Wrote, laid-front}
 use Rattle.table.specs.Cells.{shown, Stands}
 use Rattle.table.specs.declared.Desk.{Desk}
 use Rattle.nucleus.specs.View.{deskOf, view, Consists}
 use Rattle.nucleus.specs.declared.State.{State}
 use Rattle.image.specs.Format.{encode}
-use Rattle.image.specs.Laid.{laid, Wrote, laid-front}
 use Rattle.image.specs.Written.{Written}
 use Rattle.image.specs.Save.{Saves, inconsistent, short, saved}
 

@@ -7,6 +7,7 @@ use native.Mathlib.Omega.{arith}
 use lib.ListN.{length, drop, length-append}
 use Rattle.lists.specs.Lists.{none, tally}
 use Rattle.lists.specs.Bytes.{twoBytes}
+use Rattle.lists.specs.Laid.{laid, Wrote, wrote-front, Going, going-start, going-by, going-room, going-more, going-last}
 use Rattle.lines.specs.Lines.{lineOf, Tidy}
 use Rattle.filled.specs.Filled.{width, wordOf}
 use Rattle.rules.specs.Model.{places, lineCount, Model, ready, clock, line, live}
@@ -16,7 +17,6 @@ use Rattle.table.specs.Choose.{live-is}
 use Rattle.table.specs.declared.Desk.{Desk}
 use Rattle.image.specs.Format.{edition, headLength, entryLength, firstBody, head, encode}
 use Rattle.image.specs.Longest.{longestImage, live-length, tail-length, encode-length, longest}
-use Rattle.image.specs.Laid.{laid, Wrote, wrote-front, Going, going-start, going-by, going-room, going-more, going-last}
 use Rattle.image.specs.Parts.{held, bodiesIn, contentsIn, tailIn, tail-same}
 
 -- The image of m is written into s: now it is t, and every byte past the image is as it was. Its length is r.

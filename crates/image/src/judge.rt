@@ -10,7 +10,7 @@ ghost use Rattle.image.specs.Loads.{headCode, Refused, Judged};
 use super::Loaded;
 use super::bytes;
 use super::read;
-use super::save;
+use super::saving;
 use nucleus::State;
 
 // The one edition that is known.
@@ -77,8 +77,8 @@ fn same(image: &[u8], s: State) -> bool
     let b = s.blocks;
     let w = s.words;
     let l = s.lines;
-    let mut out = [0u8; save::LONGEST];
-    let n = save::write(&b, &w, &l, d, &mut out);
+    let mut out = [0u8; saving::LONGEST];
+    let n = saving::write(&b, &w, &l, d, &mut out);
     equal(image, &out, n)
 }
 

@@ -10,7 +10,15 @@ mod bytes;
 mod judge;
 mod look;
 mod read;
-pub mod save;
+mod saving;
+
+pub use saving::DONE;
+pub use saving::INCONSISTENT;
+pub use saving::LONGEST;
+pub use saving::SHORT;
+pub use saving::Saved;
+pub use saving::keep;
+pub use saving::save;
 
 // What load answers: document 01's code, and the state.
 pub struct Loaded {

@@ -8,4 +8,5 @@ pub mod Seek
 pub mod Test
 pub mod Layout
 pub mod Along
+pub mod Passes
 pub mod Callers

@@ -1,8 +1,8 @@
 // Lines of places: first come, first served. All lines are linked lists in one lent array of bytes, which is changed in place.
 // Byte p is the place after p in its line; byte PLACES + q the first place of line q; byte LAST + q its last. NONE stands where there is none.
 ghost use mathlib.Core.Path.{_≡_};
-ghost use mathlib.Core.List.{List, [], _∷_, _++_};
-ghost use Prim.Native.Nat.{ℕ, _+_, _<_};
+ghost use mathlib.Core.List.{[], _∷_, _++_};
+ghost use Prim.Native.Nat.{_+_, _<_};
 ghost use lib.ListN.{length};
 ghost use Rattle.lists.specs.Lists.{without, front};
 ghost use Rattle.lists.specs.Tells.{Tells};

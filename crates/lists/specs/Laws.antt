@@ -1,12 +1,13 @@
 -- Laws on tests, and on who stands in a list. Assumes nothing.
-use mathlib.Core.Path.{_≡_, refl, sym, _∙_}
+use mathlib.Core.Path.{_≡_, refl, sym, ap, ap₂, _∙_}
 use mathlib.Core.List.{List, [], _∷_, _++_}
-use mathlib.Core.Bool.{Bool, true, false, _&&_, false≢true}
+use mathlib.Core.Bool.{Bool, true, false, cond, _&&_, false≢true}
 use mathlib.Core.Logic.{_⊎_, inl, inr, ⊎-elim}
 use Prim.Native.Nat.{ℕ, zero, suc, _<_}
 use native.Mathlib.Omega.{arith}
 use borrow.Author.Tests.{eq-eqb, ne-eqb, eqb-true, eqb-false}
 use lib.Dec.{eqb}
+use lib.ListN.{length, getD}
 use Rattle.lists.specs.Lists.{none, among, Distinct, front, rest}
 
 -- ---- tests
@@ -26,6 +27,9 @@ and-left false b e = e
 pub and-right : (a b : Bool) → a && b ≡ true → b ≡ true
 and-right true b e = e
 and-right false b e = never e refl
+
+pub and-both : (a b : Bool) → a ≡ true → b ≡ true → a && b ≡ true
+and-both a b e f = rw (e, f)
 
 -- one of the first n has it, or none
 pub find : (b : ℕ → Bool) (n : ℕ) → ((q : ℕ) × (q < n) × (b q ≡ true)) ⊎ ((q : ℕ) → q < n → b q ≡ false)
@@ -70,6 +74,24 @@ is-left i xs ys h = by-test (among i (xs ++ ys)) (λ t. t) (λ t. never h (not-l
 pub is-right : (i : ℕ) (xs ys : List ℕ) → among i ys ≡ true → among i (xs ++ ys) ≡ true
 is-right i xs ys h = by-test (among i (xs ++ ys)) (λ t. t) (λ t. never h (not-right i xs ys t))
 
+-- one more at the back
+pub among-last : (r p : ℕ) (qs : List ℕ) → among r (qs ++ (p ∷ [])) ≡ cond (eqb p r) true (among r qs)
+among-last r p [] = refl
+among-last r p (q ∷ qs) =
+    let ih = among-last r p qs in
+    by-test (eqb q r)
+    (λ e. rw e (by-test (eqb p r) (λ t. rw t) (λ t. rw t)))
+    (λ e. rw e ih)
+
+-- who stands in a list stands somewhere in it
+pub among-at : (p : ℕ) (xs : List ℕ) → among p xs ≡ true → (i : ℕ) × (i < length xs) × (getD xs i 0 ≡ p)
+among-at p [] h = never h refl
+among-at p (x ∷ xs) h =
+    let ih = among-at p xs in
+    by-test (eqb x p)
+    (λ e. (zero, omega arith, eqb-true x p e))
+    (λ e. let w = ih (rw e at h) in (suc (w .0), omega (arith, w .1), w .2))
+
 -- ---- lists in which nobody stands twice
 pub distinct-fore : (p : ℕ) (xs ys : List ℕ) → Distinct (xs ++ (p ∷ ys)) → among p xs ≡ false
 distinct-fore p [] ys d = refl
@@ -79,6 +101,13 @@ distinct-fore p (x ∷ xs) ys d =
 pub distinct-aft : (p : ℕ) (xs ys : List ℕ) → Distinct (xs ++ (p ∷ ys)) → among p ys ≡ false
 distinct-aft p [] ys d = d .0
 distinct-aft p (x ∷ xs) ys d = distinct-aft p xs ys (d .1)
+
+-- who stands in a list once has one list in front of it
+pub fore-one : (p : ℕ) (xs ys us vs : List ℕ) → among p xs ≡ false → among p ys ≡ false → xs ++ (p ∷ us) ≡ ys ++ (p ∷ vs) → xs ≡ ys
+fore-one p [] [] us vs h g e = refl
+fore-one p [] (y ∷ ys) us vs h g e = absurd (not-head p y ys g (sym (ap front e)))
+fore-one p (x ∷ xs) [] us vs h g e = absurd (not-head p x xs h (ap front e))
+fore-one p (x ∷ xs) (y ∷ ys) us vs h g e = ap₂ _∷_ (ap front e) (fore-one p xs ys us vs (not-tail p x xs h) (not-tail p y ys g) (ap rest e))
 
 -- ---- the first
 -- of a list in which there is one

@@ -4,7 +4,9 @@ pub mod Without
 pub mod Counts
 pub mod Tables
 pub mod Search
+pub mod Only
 pub mod Tells
 pub mod Sizes
 pub mod Bytes
+pub mod Laid
 pub mod Every

@@ -1,16 +1,36 @@
 -- The numbers from k on, and the first of a list that a test holds of. Assumes nothing.
-use mathlib.Core.Path.{_≡_, refl}
+use mathlib.Core.Path.{_≡_, refl, ap, _∙_}
 use mathlib.Core.List.{List, [], _∷_}
 use mathlib.Core.Bool.{Bool, true, false, cond}
-use Prim.Native.Nat.{ℕ, zero, suc, _+_, _≤_, _<_}
+use Prim.Native.Nat.{ℕ, zero, suc, _+_, _-_, _≤_, _<_}
 use native.Mathlib.Omega.{arith}
 use borrow.Author.Tests.{eqb-true, eqb-false}
 use lib.Dec.{eqb}
-use Rattle.lists.specs.Lists.{none, count, firstOf, upFrom}
-use Rattle.lists.specs.Laws.{by-test, never}
+use lib.ListN.{length}
+use Rattle.lists.specs.Lists.{none, count, among, Distinct, firstOf, upFrom}
+use Rattle.lists.specs.Laws.{by-test, never, not-cons}
 use Rattle.lists.specs.Counts.{count-self, count-past}
 
 -- ---- the numbers from k on
+pub upFrom-length : (k n : ℕ) → length (upFrom k n) ≡ n
+upFrom-length k zero = refl
+upFrom-length k (suc n) = ap (λ (x : ℕ). suc x) (upFrom-length (suc k) n)
+
+-- from p on, for a loop that goes up to n
+pub upFrom-step : (n p : ℕ) → p < n → upFrom p (n - p) ≡ p ∷ upFrom (p + 1) (n - (p + 1))
+upFrom-step n p h =
+    let e : n - p ≡ suc (n - (p + 1)) = omega arith in
+    let i : suc p ≡ p + 1 = omega arith in
+    ap (upFrom p) e ∙ ap (λ (k : ℕ). p ∷ upFrom k (n - (p + 1))) i
+
+upFrom-low : (n k s : ℕ) → s < k → among s (upFrom k n) ≡ false
+upFrom-low zero k s h = refl
+upFrom-low (suc n) k s h = not-cons s k (upFrom (suc k) n) (λ e. omega arith) (upFrom-low n (suc k) s (omega arith))
+
+pub upFrom-distinct : (n k : ℕ) → Distinct (upFrom k n)
+upFrom-distinct zero k = tt
+upFrom-distinct (suc n) k = (upFrom-low n (suc k) k (omega arith), upFrom-distinct n (suc k))
+
 pub count-upFrom : (n k s : ℕ) → k ≤ s → s < k + n → 1 ≤ count s (upFrom k n)
 count-upFrom zero k s h i = absurd (omega arith)
 count-upFrom (suc n) k s h i =

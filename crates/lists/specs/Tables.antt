@@ -6,7 +6,7 @@ use Prim.Native.Nat.{ℕ, zero, suc, _+_, _≤_, _<_}
 use native.Mathlib.Omega.{arith}
 use borrow.Author.Tests.{eqb-true, eqb-false}
 use lib.Dec.{eqb}
-use lib.ListN.{length, getD, set, length-set}
+use lib.ListN.{length, getD, set, replicate, length-set}
 use lib.Seq.{getD-set-same, getD-set-other, ext-getD}
 use Rattle.lists.specs.Lists.{bit, tab, tally}
 use Rattle.lists.specs.Laws.{by-test}
@@ -32,6 +32,23 @@ tab-ext (suc n) f g e = ap₂ (λ (x : _) (xs : List _). x ∷ xs) (e 0 (omega a
 pub tab-same : {A : Type 0} (d : A) (n : ℕ) (f g : ℕ → A) → tab n f ≡ tab n g → (i : ℕ) → i < n → f i ≡ g i
 tab-same d n f g e i h = sym (getD-tab n f i d h) ∙ ap (λ (xs : List _). getD xs i d) e ∙ getD-tab n g i d h
 
+-- a list is the table of its elements
+pub tab-of : {A : Type 0} (d : A) (n : ℕ) (xs : List A) → length xs ≡ n → tab n (λ i. getD xs i d) ≡ xs
+tab-of d n xs e =
+    let v = length-tab n (λ i. getD xs i d) in
+    ext-getD d (tab n (λ i. getD xs i d)) xs (v ∙ sym e) (λ i h. getD-tab n (λ i. getD xs i d) i d (omega arith))
+
+-- and where all of them are one, a list of that
+pub tab-all : {A : Type 0} (n : ℕ) (a : A) → tab n (λ _. a) ≡ replicate n a
+unfolding tab
+tab-all zero a = refl
+tab-all {A = A} (suc n) a = ap (λ (l : List A). a ∷ l) (tab-all n a)
+
+pub all-same : {A : Type 0} (n i : ℕ) (a : A) → getD (replicate n a) i a ≡ a
+all-same zero i a = refl
+all-same (suc n) zero a = refl
+all-same (suc n) (suc i) a = all-same n i a
+
 -- a table of which one entry is another
 pub tab-set : {A : Type 0} (d : A) (n : ℕ) (f g : ℕ → A) (p : ℕ) (t : A) → p < n → g p ≡ t → ((r : ℕ) → r < n → (r ≡ p → ⊥) → g r ≡ f r) → tab n g ≡ set (tab n f) p t
 tab-set d n f g p t b e o =
@@ -48,6 +65,12 @@ tab-set d n f g p t b e o =
 pub bit-low : (b : Bool) → bit b ≤ 1
 bit-low true = omega arith
 bit-low false = omega arith
+
+pub bit-same : (a b : Bool) → bit a ≡ bit b → a ≡ b
+bit-same true true e = refl
+bit-same true false e = absurd (omega arith)
+bit-same false true e = absurd (omega arith)
+bit-same false false e = refl
 
 pub tally-ext : (n : ℕ) (f g : ℕ → Bool) → ((i : ℕ) → i < n → f i ≡ g i) → tally n f ≡ tally n g
 unfolding tally
@@ -85,6 +108,11 @@ tally-all (suc n) f e zero h =
     let i = tally-low n (λ k. f (suc k)) in
     by-test (f zero) (λ t. t) (λ t. let b = ap bit t in absurd (omega arith))
 tally-all (suc n) f e (suc p) h = let b = bit-low (f zero) in let i = tally-low n (λ k. f (suc k)) in tally-all n (λ k. f (suc k)) (omega arith) p (omega arith)
+
+pub tally-full : (n : ℕ) (f : ℕ → Bool) → ((p : ℕ) → p < n → f p ≡ true) → tally n f ≡ n
+unfolding tally
+tally-full zero f h = refl
+tally-full (suc n) f h = rw (h 0 (omega arith), tally-full n (λ k. f (suc k)) (λ p i. h _ (omega arith))) (omega arith)
 
 pub tally-none : (n : ℕ) (f : ℕ → Bool) → tally n f ≡ 0 → (p : ℕ) → p < n → f p ≡ false
 unfolding tally

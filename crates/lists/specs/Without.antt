@@ -30,6 +30,10 @@ without-append p (x ∷ xs) ys h =
     (λ e. rw e)
     (λ e. let g : among p xs ≡ true = rw e at h in rw e (ap (λ (t : List ℕ). x ∷ t) (ih g)))
 
+pub without-behind : (p : ℕ) (xs ys : List ℕ) → among p xs ≡ false → without p (xs ++ ys) ≡ xs ++ without p ys
+without-behind p [] ys h = refl
+without-behind p (x ∷ xs) ys h = rw (ne-eqb x p (not-head p x xs h)) (ap (λ (t : List ℕ). x ∷ t) (without-behind p xs ys (not-tail p x xs h)))
+
 -- ---- who stands there
 -- who did not stand there
 pub without-other : (p i : ℕ) (xs : List ℕ) → among i xs ≡ false → among i (without p xs) ≡ false

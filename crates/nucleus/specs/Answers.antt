@@ -1,5 +1,5 @@
 -- What an event answers, on any state whatever, and that there is one such answer.
-use mathlib.Core.Path.{_≡_, refl, sym, ap, _∙_}
+use mathlib.Core.Path.{_≡_, sym, ap, _∙_}
 use mathlib.Core.List.{List}
 use Prim.Native.Nat.{ℕ}
 use Rattle.rules.specs.Values.{nobody}
@@ -11,7 +11,7 @@ use Rattle.table.specs.Cells.{shown}
 use Rattle.table.specs.declared.Desk.{Desk}
 use Rattle.threads.specs.Ran.{Ran}
 use Rattle.events.specs.declared.Outcome.{Outcome as Ended}
-use Rattle.nucleus.specs.View.{view, deskOf, laid, Consists, Shows, Looked, held, refused}
+use Rattle.nucleus.specs.View.{view, deskOf, laid, Shows, Looked, held, refused}
 use Rattle.nucleus.specs.Settled.{shows-one}
 use Rattle.nucleus.specs.declared.State.{State}
 use Rattle.nucleus.specs.declared.Reply.{Reply}

@@ -1,5 +1,5 @@
 -- The counted cases (document 01), as the contract of `State::step` gives them: whatever replies meet it, event by event, they end as the table says.
-use mathlib.Core.Path.{_≡_, refl, sym, ap, subst, _∙_}
+use mathlib.Core.Path.{_≡_, refl, ap, subst, _∙_}
 use mathlib.Core.List.{List, [], _∷_}
 use Prim.Native.Nat.{ℕ, zero, suc, _≤_}
 use native.Mathlib.Omega.{arith}
@@ -8,12 +8,11 @@ use Rattle.lists.specs.Every.{Every, each, every}
 use Rattle.rules.specs.Model.{Model, lastNumber, thread}
 use Rattle.rules.specs.Rules.{Outcome, outcome, fresh, gave, after}
 use Rattle.rules.specs.Consistent.{belongs, Consistent}
-use Rattle.rules.specs.Counted.{Seen, Case, played, begun, found, one, cases, counted}
+use Rattle.rules.specs.Counted.{Seen, played, begun, found, one, cases, counted}
 use Rattle.rules.specs.declared.Event.{Event}
 use Rattle.order.specs.Keeps.{fresh-consistent, always}
-use Rattle.nucleus.specs.View.{view, Consists, Shows, Looked, held, refused}
+use Rattle.nucleus.specs.View.{view, held, refused}
 use Rattle.nucleus.specs.Answers.{Meets, Answers}
-use Rattle.nucleus.specs.declared.State.{State}
 use Rattle.nucleus.specs.declared.Reply.{Reply}
 
 -- from the reply r on, the events es lead to the reply z: each reply meets the contract of `step`

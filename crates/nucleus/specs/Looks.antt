@@ -1,10 +1,10 @@
 -- What a look at a consistent state finds is what the model has.
-use mathlib.Core.Path.{_≡_, refl, sym, ap, _∙_}
+use mathlib.Core.Path.{_≡_, sym, _∙_}
 use mathlib.Core.List.{List}
 use mathlib.Core.Bool.{not}
-use Prim.Native.Nat.{ℕ, _+_, _≤_, _<_}
+use Prim.Native.Nat.{ℕ, _≤_, _<_}
 use native.Mathlib.Omega.{arith}
-use lib.ListN.{length, List·getD-eq-default}
+use lib.ListN.{List·getD-eq-default}
 use Rattle.lists.specs.Lists.{none, upFrom, firstOf, tab}
 use Rattle.lists.specs.Search.{first-ext}
 use Rattle.lists.specs.Tables.{length-tab}

@@ -1,12 +1,11 @@
 -- The model of a consistent state settles every byte of it.
 use mathlib.Core.Path.{_≡_, refl, sym, ap, ap₂, subst, _∙_}
-use mathlib.Core.List.{List, [], _∷_}
+use mathlib.Core.List.{List, []}
 use mathlib.Core.Bool.{Bool, true, false, not}
-use Prim.Native.Nat.{ℕ, zero, suc}
+use Prim.Native.Nat.{ℕ}
 use lib.Dec.{eqb}
-use lib.ListN.{replicate}
-use Rattle.lists.specs.Lists.{none, tab}
-use Rattle.lists.specs.Tables.{tab-ext}
+use Rattle.lists.specs.Lists.{none}
+use Rattle.lists.specs.Tables.{tab-ext, tab-all}
 use Rattle.lines.specs.Lines.{lineOf, Clear}
 use Rattle.filled.specs.Filled.{wordOf}
 use Rattle.filled.specs.Words.{word-none}
@@ -47,11 +46,6 @@ looked-one (refused n e) (held l f) = absurd (n l)
 looked-one (refused n e) (refused m f) = e ∙ sym f
 
 -- ---- fresh
-
-tab-all : {A : Type 0} (n : ℕ) (a : A) → tab n (λ _. a) ≡ replicate n a
-unfolding tab
-tab-all zero a = refl
-tab-all {A = A} (suc n) a = ap (λ (l : List A). a ∷ l) (tab-all n a)
 
 abbrev as-model : List Model.Thread → List (List ℕ) → Model.Model
 as-model t q = record { last = lastNumber; running = none; threads = t; lines = q }

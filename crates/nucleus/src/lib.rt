@@ -16,7 +16,6 @@ use rules::Choice;
 use rules::Event;
 use rules::Number;
 use rules::Place;
-use table::Answer;
 use table::Blocks;
 use table::Desk;
 use table::Thread;

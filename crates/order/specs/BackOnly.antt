@@ -1,17 +1,17 @@
 -- Nothing ever enters ready except at the back: after any event, ready is what stays of it, in its order, and behind that those who join.
 use Prim.Native.Nat.{ℕ}
-use mathlib.Core.Path.{_≡_, refl, sym, ap, subst⁻¹}
+use mathlib.Core.Path.{_≡_, refl, sym, subst⁻¹}
 use mathlib.Core.List.{List, [], _∷_, _++_}
 use mathlib.Core.Bool.{Bool, true, false, cond}
 use native.Mathlib.Decide.{ℕ-discrete}
 use native.Mathlib.Omega.{arith}
 use lib.Seq.{getD-set-same, getD-set-other}
 use lib.Dec.{eqb}
-use borrow.Author.Tests.{eqb-true, eq-eqb, ne-eqb}
+use borrow.Author.Tests.{eqb-true, eq-eqb}
 use Rattle.lists.specs.Lists.{bit, count, among, without}
-use Rattle.lists.specs.Laws.{by-test, never, not-head, not-tail}
+use Rattle.lists.specs.Laws.{by-test, never}
 use Rattle.lists.specs.Counts.{count-append, none-among, among-some}
-use Rattle.lists.specs.Without.{without-append, without-other}
+use Rattle.lists.specs.Without.{without-append, without-behind, without-other}
 use Rattle.lists.specs.Tables.{bit-low}
 use Rattle.rules.specs.Model.{Running, Ready, Sending, Waiting, Model, ready, clock, inbox, thread, line, allPlaces}
 use Rattle.rules.specs.Rules.{placeOf, leave, outOfLine, idle, starts, dispatched, act, refusal, next}
@@ -54,10 +54,6 @@ remains-without : (p : ℕ) {old kept : List ℕ} → Remains old kept → Remai
 remains-without p nothing = nothing
 remains-without p (stays {p = x} r) = let ih = remains-without p r in by-test (eqb x p) (λ e. rw e (goes r)) (λ e. rw e (stays ih))
 remains-without p (goes r) = goes (remains-without p r)
-
-without-behind : (p : ℕ) (xs ys : List ℕ) → among p xs ≡ false → without p (xs ++ ys) ≡ xs ++ without p ys
-without-behind p [] ys h = refl
-without-behind p (x ∷ xs) ys h = rw (ne-eqb x p (not-head p x xs h)) (ap (λ (t : List ℕ). x ∷ t) (without-behind p xs ys (not-tail p x xs h)))
 
 grown-without : (p : ℕ) (old new : List ℕ) → Grown old new → Grown old (without p new)
 grown-without p old new G =

@@ -1,12 +1,12 @@
 -- A fresh nucleus is consistent, and every event, accepted or refused, keeps a consistent nucleus consistent: so does every history.
-use Prim.Native.Nat.{ℕ, zero, suc}
+use Prim.Native.Nat.{ℕ}
 use mathlib.Core.Path.{_≡_, refl}
 use mathlib.Core.List.{List, [], _∷_}
 use mathlib.Core.Bool.{Bool, true, false, cond}
 use native.Mathlib.Omega.{arith}
-use lib.ListN.{getD, replicate}
 use lib.Dec.{eqb}
 use borrow.Author.Tests.{eqb-true}
+use Rattle.lists.specs.Tables.{all-same}
 use Rattle.rules.specs.Model.{places, lineCount, vacant, Model, thread}
 use Rattle.rules.specs.Rules.{fresh, dispatched, act, refusal, next, after}
 use Rattle.rules.specs.Consistent.{Fits, Consistent}
@@ -18,11 +18,6 @@ use Rattle.order.specs.End.{fit-vacant}
 use Rattle.order.specs.Acts.{does, acts-sound}
 
 -- ---- fresh
-
-all-same : {A : Type 0} (n i : ℕ) (a : A) → getD (replicate n a) i a ≡ a
-all-same zero i a = refl
-all-same (suc n) zero a = refl
-all-same (suc n) (suc i) a = all-same n i a
 
 vacant-all : (p : ℕ) → thread fresh p ≡ vacant
 vacant-all p = all-same places p vacant

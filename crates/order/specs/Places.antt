@@ -1,14 +1,15 @@
 -- Looking places up: the place of a live number, and the lowest empty one.
-use Prim.Native.Nat.{ℕ, zero, suc, _≤_, _<_}
+use Prim.Native.Nat.{ℕ, _≤_, _<_}
 use mathlib.Core.Path.{_≡_, refl, _∙_}
 use mathlib.Core.Logic.{_≢_}
-use mathlib.Core.Bool.{Bool, true, false, _&&_, not}
+use mathlib.Core.Bool.{true, false, _&&_, not}
 use native.Mathlib.Decide.{ℕ-discrete, decLt}
 use native.Mathlib.Omega.{arith}
 use lib.Dec.{eqb}
 use borrow.Author.Tests.{not-true, not-false, eqb-true, eqb-false, eq-eqb, ne-eqb}
-use Rattle.lists.specs.Lists.{none, count, tally}
+use Rattle.lists.specs.Lists.{none, count}
 use Rattle.lists.specs.Laws.{by-test, and-left, and-right}
+use Rattle.lists.specs.Tables.{tally-full}
 use Rattle.lists.specs.Search.{count-upFrom, upFrom-within, found-in, found-passes, found-none, found-from}
 use Rattle.rules.specs.Model.{places, Empty, Model, thread, line, allPlaces, livesAt}
 use Rattle.rules.specs.Rules.{placeOf, inUse, emptyPlace, full}
@@ -98,12 +99,6 @@ module _ (m : Model) (h : emptyPlace m ≢ none) where
   -- who lives stands elsewhere
   pub elsewhere : (s : ℕ) → thread m s .standing ≢ Empty → s ≢ emptyPlace m
   elsewhere s l z = l (rw z empty)
-
--- all of them hold: the tally is whole
-tally-full : (n : ℕ) (f : ℕ → Bool) → ((p : ℕ) → p < n → f p ≡ true) → tally n f ≡ n
-unfolding tally
-tally-full zero f h = refl
-tally-full (suc n) f h = rw (h 0 (omega arith), tally-full n (λ k. f (suc k)) (λ p i. h _ (omega arith))) (omega arith)
 
 -- where not every place lives, there is one
 pub not-full : (m : Model) → full m ≡ false → emptyPlace m ≢ none

@@ -53,7 +53,8 @@ module _ (m : Model) (S : Sound m) where
   pub line-distinct : (q : ℕ) → Distinct (line m q)
   line-distinct q = count-distinct (line m q) (λ p. let e = S .stood p q in let b = bit-low (belongs m (thread m p) q) in omega arith)
 
-  no-place : (q i : ℕ) → places ≤ i → among i (line m q) ≡ false
+  -- no line holds who is no place
+  pub no-place : (q i : ℕ) → places ≤ i → among i (line m q) ≡ false
   no-place q i h = by-test (among i (line m q)) (λ e. let s = stands-at i q e in absurd (omega arith)) (λ e. e)
 
   -- no line overflows

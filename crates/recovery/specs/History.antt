@@ -20,9 +20,9 @@ use Rattle.image.specs.Save.{Saves}
 use Rattle.image.specs.Loads.{Loads}
 use Rattle.image.specs.RoundTrip.{saves-well, saved-loads}
 use Rattle.image.specs.declared.Loaded.{Loaded}
-use Rattle.logbook.specs.Log.{limit, Parsed, recordsIn, logOf}
+use Rattle.logbook.specs.Log.{limit, Parsed, logOf}
 use Rattle.logbook.specs.Promise.{Came, Replays, inconsistent, too-long, came}
-use Rattle.logbook.specs.Cut.{Rest, none, half, Front, wholeIn, cutCode, read-log, whole-front}
+use Rattle.logbook.specs.Cut.{Rest, none, half, wholeIn, cutCode, read-log}
 use Rattle.logbook.specs.History.{Session, history as replayed, after-append}
 use Rattle.logbook.specs.declared.Replayed.{Replayed}
 

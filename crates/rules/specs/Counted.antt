@@ -8,7 +8,7 @@ use Rattle.rules.specs.Model.{lastNumber, Running, Ready, Waiting, Recei
 use Rattle.rules.specs.Rules.{firstFree, fresh, gave, choice, after, Outcome, outcome}
 use Rattle.rules.specs.declared.Number.{Number}
 use Rattle.rules.specs.declared.Event.{Event}
-use Rattle.rules.specs.declared.Event.the-variants.{Create, Send, Receive, Reply, End, WaitClock, SliceEnd, Tick}
+use Rattle.rules.specs.declared.Event.the-variants.{Create, Send, Receive, Reply, End, WaitClock, Tick}
 use Rattle.rules.specs.declared.Choice.{Choice}
 use Rattle.rules.specs.declared.Choice.the-variants.{Run, Halt, Wait, Stuck}
 

@@ -1,14 +1,13 @@
 -- Examples where the order of a line matters, computed from the rules: whoever came first is first, and not whoever has the lower place.
-use Prim.Native.Nat.{ℕ}
 use mathlib.Core.Path.{_≡_, refl}
 use mathlib.Core.List.{List, [], _∷_}
 use Rattle.lists.specs.Lists.{tally}
 use Rattle.rules.specs.Values.{nobody}
-use Rattle.rules.specs.Model.{Model, ready, clock, inbox, line, thread, allPlaces}
+use Rattle.rules.specs.Model.{ready, clock, inbox, line, thread, allPlaces}
 use Rattle.rules.specs.Rules.{firstFree, fresh, after}
 use Rattle.rules.specs.Counted.{no}
 use Rattle.rules.specs.declared.Event.{Event}
-use Rattle.rules.specs.declared.Event.the-variants.{Create, Send, Receive, Reply, End, WaitClock, SliceEnd, Tick}
+use Rattle.rules.specs.declared.Event.the-variants.{Create, Send, Receive, End, WaitClock, SliceEnd, Tick}
 
 -- after three creates and a slice end 1 runs, and 2 and 0 are ready
 -- thread 1 waits for the clock, then 2, then 0: ready takes them in that order, and its front runs

@@ -10,7 +10,7 @@ pub const EVENTS: usize = 200;
 // Room for what was there before the first of them and after each.
 pub const MARKS: usize = EVENTS + 1;
 
-pub const KEPT: usize = MARKS * image::save::LONGEST;
+pub const KEPT: usize = MARKS * image::LONGEST;
 
 pub const LOADS: usize = MARKS * lines::PLACES;
 
@@ -100,12 +100,12 @@ fn keep_image(kept: &mut [u8], i: usize, s: State) {
     if i >= MARKS {
         return;
     }
-    let a = i * image::save::LONGEST;
-    let b = a + image::save::LONGEST;
+    let a = i * image::LONGEST;
+    let b = a + image::LONGEST;
     if b > kept.len() {
         return;
     }
-    image::save::save(s, &mut kept[a..b]);
+    image::save(s, &mut kept[a..b]);
 }
 
 fn keep_loads(loads: &mut [u64], i: usize, s: State) {
@@ -153,14 +153,14 @@ pub fn same(kept: &[u8], i: usize, s: State) -> bool {
     if i >= MARKS {
         return false;
     }
-    let a = i * image::save::LONGEST;
-    let b = a + image::save::LONGEST;
+    let a = i * image::LONGEST;
+    let b = a + image::LONGEST;
     if b > kept.len() {
         return false;
     }
-    let mut image = [0u8; image::save::LONGEST];
-    let r = image::save::save(s, &mut image);
-    if r.code != image::save::DONE {
+    let mut image = [0u8; image::LONGEST];
+    let r = image::save(s, &mut image);
+    if r.code != image::DONE {
         return false;
     }
     equal(&kept[a..b], &image)

@@ -9,14 +9,14 @@ mod report;
 const LOG: usize = 6 * book::EVENTS;
 
 fn main() {
-    let mut image = [0u8; image::save::LONGEST];
+    let mut image = [0u8; image::LONGEST];
     let mut log = [0u8; LOG];
     let mut marks = [0usize; book::MARKS];
     let mut kept = [0u8; book::KEPT];
     let mut loads = [0u64; book::LOADS];
     let morning = day::morning();
     let s = morning.state;
-    let saved = image::save::save(s, &mut image);
+    let saved = image::save(s, &mut image);
     let length = saved.length;
     let evening = day::rest(morning, &mut log, &mut marks, &mut kept, &mut loads);
     let end = evening.position;

@@ -1,23 +1,22 @@
 -- The choice, read off the arrays.
 use mathlib.Core.Path.{_≡_, refl, sym, ap, _∙_}
 use mathlib.Core.List.{List, [], _∷_}
-use mathlib.Core.Bool.{Bool, true, false, not}
-use Prim.Native.Nat.{ℕ, _≤_, _<_}
+use mathlib.Core.Bool.{false}
+use Prim.Native.Nat.{ℕ, _<_}
 use native.Mathlib.Decide.{decLt}
 use native.Mathlib.Omega.{arith}
 use lib.Dec.{eqb}
-use lib.ListN.{length, getD, List·getD-eq-default}
+use lib.ListN.{getD, List·getD-eq-default}
 use borrow.Author.Tests.{eq-eqb, ne-eqb}
 use Rattle.lists.specs.Lists.{none, among, front, tab, tally}
 use Rattle.lists.specs.Laws.{not-head}
 use Rattle.lists.specs.Tables.{tally-ext, length-tab}
 use Rattle.lines.specs.Lines.{lineOf, Tidy}
 use Rattle.lines.specs.Along.{no-place}
-use Rattle.rules.specs.Model.{places, lineCount, vacant, Thread, thread, livesAt, live, clock}
+use Rattle.rules.specs.Model.{places, lineCount, vacant, Thread, livesAt, live, clock}
 use Rattle.rules.specs.Rules.{isNil, mine, choice}
-use Rattle.rules.specs.declared.Choice.{Choice}
 use Rattle.rules.specs.declared.Choice.the-variants.{Run, Halt, Wait, Stuck}
-use Rattle.table.specs.Cells.{cell, threadOf, modelOf, shown, standsAt, Filled, Stands}
+use Rattle.table.specs.Cells.{cell, threadOf, shown, standsAt, Filled, Stands}
 use Rattle.table.specs.Rows.{thread-at, line-at}
 use Rattle.table.specs.declared.Desk.{Desk}
 

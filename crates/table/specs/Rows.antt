@@ -1,21 +1,19 @@
 -- What a store in one cell does to the threads, and that the model settles the arrays, to the last byte. One law serves every row.
-use mathlib.Core.Path.{_≡_, refl, sym, ap, _∙_}
+use mathlib.Core.Path.{_≡_, sym, ap, _∙_}
 use mathlib.Core.List.{List, []}
-use mathlib.Core.Bool.{Bool, true, false, cond}
-use Prim.Native.Nat.{ℕ, zero, suc, _+_, _*_, _-_, _/_, _%_, _≤_, _<_}
+use mathlib.Core.Bool.{cond}
+use Prim.Native.Nat.{ℕ, zero, suc, _*_, _/_, _%_, _<_}
 use native.Mathlib.Omega.{arith}
 use borrow.Author.Tests.{eqb-true, eqb-false}
 use lib.Dec.{eqb}
 use lib.ListN.{length, getD, set}
 use lib.Seq.{getD-set-same, getD-set-other, ext-getD}
-use Rattle.lists.specs.Lists.{tab}
 use Rattle.lists.specs.Laws.{by-test}
 use Rattle.lists.specs.Tables.{getD-tab, tab-same}
 use Rattle.lines.specs.Lines.{lineOf}
 use Rattle.lines.specs.Arrays.{unique}
 use Rattle.rules.specs.Model.{places, lineCount, Thread, vacant, Model, thread, line}
-use Rattle.table.specs.Cells.{cell, byteRows, wordRows, threadOf, modelOf, shown, Whole, standsAt, Filled, Stands}
-use Rattle.table.specs.declared.Desk.{Desk}
+use Rattle.table.specs.Cells.{cell, byteRows, wordRows, threadOf, modelOf, Whole}
 
 -- ---- a store
 

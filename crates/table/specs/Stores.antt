@@ -1,12 +1,11 @@
 -- What the reads and stores of the table find and leave in the arrays, and what that makes of the threads: one is another, and all others are as they were.
-use mathlib.Core.Path.{_≡_, refl, ap, _∙_}
+use mathlib.Core.Path.{_≡_, ap, _∙_}
 use mathlib.Core.List.{List}
 use mathlib.Core.Bool.{Bool, _&&_}
 use Prim.Native.Nat.{ℕ, _*_, _<_}
 use native.Mathlib.Omega.{arith}
 use lib.Dec.{eqb}
 use lib.ListN.{length, getD, set, length-set}
-use Rattle.rules.specs.Values.{nobody}
 use Rattle.rules.specs.Model.{places, Awaiting, Thread}
 use Rattle.rules.specs.Rules.{stands, told}
 use Rattle.table.specs.Cells.{cell, byteRows, wordRows, threadOf}

@@ -1,25 +1,21 @@
--- A place is filled, or cleaned: the stores that make a newcomer of whatever stood there, or nobody.
+-- A place is filled: the stores that make a newcomer of whatever stood there.
 use mathlib.Core.Path.{ap, _∙_}
 use mathlib.Core.List.{List}
 use Prim.Native.Nat.{ℕ, _<_}
 use native.Mathlib.Omega.{arith}
 use Rattle.lists.specs.Tables.{length-tab}
 use Rattle.rules.specs.Values.{nobody}
-use Rattle.rules.specs.Model.{places, Empty, Ready, vacant, Model, ready}
+use Rattle.rules.specs.Model.{places, Ready, Model, ready}
 use Rattle.rules.specs.Rules.{put, stands, told, join, woken, newcomer}
 use Rattle.table.specs.Cells.{threadOf, modelOf, Whole}
 use Rattle.table.specs.Rows.{withByte}
-use Rattle.table.specs.Stores.{Stood, Told, Named, wrote-then}
+use Rattle.table.specs.Stores.{Named}
 use Rattle.table.specs.Stores as Stores
 use Rattle.verbs.specs.Steps.{Steps, changing, then, wrote, twice}
 
 -- p takes the newcomer n, which goes to the back of ready
 abbrev pub seated : ℕ → ℕ → Model → Model
 seated p n m = join ready p (put p (newcomer n) m)
-
--- the place p holds nobody, and the lines, whatever they are, stay
-abbrev pub Cleans : List ℕ → List ℕ → List ℕ → List ℕ → ℕ → Type 0
-Cleans b w b′ w′ p = (l : List ℕ) → Whole b w l → Steps b w l b′ w′ l (put p vacant)
 
 module _ {b w l : List ℕ} (k : Whole b w l) {p : ℕ} (h : p < places) {b₁ : List ℕ} {n : ℕ} (e : Named b p n b₁) where
   pub named : Steps b w l b₁ w l (changing p (withByte 0 n))
@@ -32,9 +28,3 @@ module _ {b w l : List ℕ} (k : Whole b w l) {p : ℕ} (h : p < places) {b₁ :
         let v = length-tab places (threadOf b w) in
         then named t .seen y x ∙ ap (join ready p) (twice (withByte 0 n) (λ u. stands Ready nobody 0 (told 0 nobody 0 u)) (modelOf y x b w l) p (omega arith));
   }
-
-pub cleans : {b w b₁ b₂ w₂ b₃ w₃ : List ℕ} {p : ℕ} → p < places → Named b p nobody b₁ → Told b₁ w p 0 nobody 0 b₂ w₂ → Stood b₂ w₂ p Empty nobody 0 b₃ w₃ → Cleans b w b₃ w₃ p
-cleans h e f g l k =
-    let r = Stores.named (k .blocks) (k .words) h e in
-    let s = Stores.heard (r .blocks) (r .words) h f in
-    wrote k h (wrote-then r (wrote-then s (Stores.stood (s .blocks) (s .words) h g)))

@@ -1,6 +1,5 @@
 // Whom a number names, and why a caller may not name it.
 ghost use mathlib.Core.Path.{_≡_};
-ghost use Rattle.table.specs.Cells.{Stands};
 ghost use Rattle.verbs.specs.Find.{found};
 ghost use Rattle.verbs.specs.Address.{Seated, Names, Addresses};
 use rules::Number;

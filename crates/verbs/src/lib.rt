@@ -6,7 +6,7 @@ ghost use Rattle.rules.specs.Model.{places, lineCount};
 ghost use Rattle.rules.specs.Rules.{readied, woken, dispatched};
 ghost use Rattle.table.specs.Cells.{Whole};
 ghost use Rattle.verbs.specs.Steps.{Steps, Turns, running};
-ghost use Rattle.verbs.specs.Seats.{seated, Cleans};
+ghost use Rattle.verbs.specs.Seats.{seated};
 use lines::Links;
 use rules::Number;
 use rules::Place;
@@ -93,14 +93,4 @@ pub fn seat(b: &mut Blocks, w: &mut Words, l: &mut Links, p: Place, n: Number)
 {
     table::name(b, p, n);
     wake(b, w, l, p, 0, Number(rules::NOBODY), 0);
-}
-
-// The place p is empty, and clean.
-pub fn clean(b: &mut Blocks, w: &mut Words, p: Place)
-    requires { ⌜ p .0 < places ⌝ }
-    ensures { λ r. ⌜ Cleans (now (b .entry)) (now (w .entry)) (now (b .exit)) (now (w .exit)) (p .0) ⌝ }
-{
-    table::name(b, p, Number(rules::NOBODY));
-    table::tell(b, w, p, 0, Number(rules::NOBODY), 0);
-    table::stand(b, w, p, rules::EMPTY, Number(rules::NOBODY), 0);
 }

@@ -1,6 +1,6 @@
 -- `every` meets its contract. The loop's invariant: the places passed pass.
 use Prim.Native.Nat.{ℕ, _≤_, _<_, _-_}
-use mathlib.Core.Path.{_≡_, refl}
+use mathlib.Core.Path.{_≡_, sym, _∙_}
 use native.Mathlib.Omega.{arith}
 use borrow.Author.Needs.{needs}
 use Rattle.lists.specs.Tells.{tells-yes, tells-no}
@@ -8,7 +8,6 @@ use borrow.Author.Tests.{not-true, not-false}
 use Rattle.rules.specs.Model.{places}
 use mathlib.Core.Bool.{true}
 use mathlib.Core.List.{[]}
-use mathlib.Core.Path.{sym, _∙_}
 use borrow.Author.Count.{below-more}
 use Rattle.table.specs.Cells.{modelOf}
 use Rattle.audit.specs.Tests.{placeTest}

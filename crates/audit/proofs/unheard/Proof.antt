@@ -5,7 +5,7 @@ use mathlib.Core.List.{[]}
 use mathlib.Core.Bool.{not}
 use native.Mathlib.Omega.{arith}
 use borrow.Author.Tests.{eq-eqb, ne-eqb}
-use lib.ListN.{length, List·getD-eq-default}
+use lib.ListN.{List·getD-eq-default}
 use Rattle.lists.specs.Lists.{tab}
 use Rattle.lists.specs.Tables.{length-tab}
 use Rattle.rules.specs.Model.{places, vacant}

@@ -1,6 +1,5 @@
 -- `rumqatiss_look_up` meets its contract: what `locate` says, in two bytes each.
 use native.Mathlib.Omega.{arith}
-use mathlib.Core.Path.{refl}
 use Rattle.board.specs.Answers.{locate-short}
 use borrow.Author.Needs.{needs}
 use Rattle.board.proofs.rumqatiss_look_up.Statement.{statement}

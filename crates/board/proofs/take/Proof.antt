@@ -1,5 +1,4 @@
 -- `take` meets its contract: 13, 12, or what the one event comes to.
-use mathlib.Core.Path.{_≡_}
 use mathlib.Core.List.{[], _∷_}
 use types.Run.{miss}
 use Rattle.nucleus.specs.View.{view}

@@ -1,7 +1,6 @@
 -- `hex` is safe and ends: what is left of the bytes falls.
 use Prim.Native.Nat.{_≤_, _-_}
 use lib.ListN.{length}
-use native.Mathlib.Omega.{arith}
 use borrow.Author.Needs.{needs}
 use Rattle.console.proofs.hex.Statement.{statement}
 use Rattle.console.proofs.hex.Tie as tie

@@ -1,7 +1,6 @@
 -- `looked` ends: the numbers run out.
 use Prim.Native.Nat.{_≤_, _-_}
 use lib.ListN.{length}
-use native.Mathlib.Omega.{arith}
 use borrow.Author.Needs.{needs}
 use Rattle.loads.proofs.looked.Statement.{statement}
 use Rattle.loads.proofs.looked.Tie as tie

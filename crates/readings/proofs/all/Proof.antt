@@ -1,7 +1,6 @@
 -- `all` ends: each vector moves on, within the bytes.
 use Prim.Native.Nat.{_≤_, _-_}
 use lib.ListN.{length}
-use native.Mathlib.Omega.{arith}
 use borrow.Author.Needs.{needs}
 use Rattle.readings.proofs.all.Statement.{statement}
 use Rattle.readings.proofs.all.Tie as tie

@@ -1,7 +1,6 @@
 -- `kept` ends: the bytes run out.
 use Prim.Native.Nat.{_≤_, _-_}
 use lib.ListN.{length}
-use native.Mathlib.Omega.{arith}
 use borrow.Author.Needs.{needs}
 use Rattle.records.proofs.kept.Statement.{statement}
 use Rattle.records.proofs.kept.Tie as tie

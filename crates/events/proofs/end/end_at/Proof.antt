@@ -17,7 +17,7 @@ out-of-line-requires : tie.Need-out-of-line-requires
 out-of-line-requires c κs = (c .before .before .let-go .ensures .whole .lines, end-place (c .before .before .before .before .before .before .before .before .before .before .before .pre), end-served (c .before .before .before .before .before .before .before .before .before .before .before .pre) (c .before .before .before .before .before .before .hand-all-back .ensures) (c .before .before .let-go .ensures))
 
 clean-requires : tie.Need-clean-requires
-clean-requires c κs = end-place (c .before .before .before .before .before .before .before .before .before .before .before .before .before .before .pre)
+clean-requires c κs = let k = c .before .before .before .before .before .let-go .ensures .whole in (record { blocks = k .blocks; words = k .words }, end-place (c .before .before .before .before .before .before .before .before .before .before .before .before .before .before .pre))
 
 returns : tie.Need-returns
 returns c = ended (c .before .before .before .before .before .before .before .before .before .before .before .before .before .before .before .pre) (c .before .before .before .before .before .before .before .before .before .before .hand-all-back .ensures) (c .before .before .before .before .before .before .let-go .ensures) (c .before .before .before .out-of-line .ensures) (c .clean .ensures)

@@ -1,8 +1,7 @@
 -- `pick` meets its contract: whom a search from here on finds is whom the whole search finds.
 use native.Mathlib.Omega.{arith}
 use lib.ListN.{length}
-use Rattle.lines.specs.Lines.{lineOf}
-use Rattle.lines.specs.Along.{onFrom}
+use Rattle.lines.specs.Passes.{left}
 use Rattle.rules.specs.Model.{places}
 use Rattle.events.specs.Pick.{Picking, pick-start, pick-end, pick-place, pick-here, pick-again, pick-less}
 use Rattle.events.proofs.receive.pick.Statement.{statement}
@@ -12,7 +11,7 @@ abbrev Inv-loop : tie.InvT-loop
 Inv-loop b l q n p₀ p = Picking b l q (n .0) p
 
 abbrev μ-loop : tie.MeasureT-loop
-μ-loop b l q n p₀ p = length (onFrom p (lineOf places l q))
+μ-loop b l q n p₀ p = length (left places l q p)
 
 first-requires : tie.Need-first-requires Inv-loop μ-loop
 first-requires c κs = c .pre

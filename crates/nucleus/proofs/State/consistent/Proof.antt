@@ -1,6 +1,5 @@
 -- `State::consistent` meets its contract: the test is made of the arrays and the desk.
 use borrow.Author.Needs.{needs}
-use mathlib.Core.Path.{_≡_}
 use Rattle.nucleus.proofs.State.consistent.Statement.{statement}
 use Rattle.nucleus.proofs.State.consistent.Tie as tie
 

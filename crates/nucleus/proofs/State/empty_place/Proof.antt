@@ -1,10 +1,9 @@
 -- `State::empty_place` meets its contract: the lowest zero of the filled set.
 use borrow.Author.Needs.{needs}
-use Rattle.nucleus.specs.View.{held, refused}
 use borrow.Author.Tests.{not-true, not-false}
 use mathlib.Core.Path.{refl}
 use Rattle.table.specs.Cells.{standsAt}
-use Rattle.nucleus.specs.View.{deskOf}
+use Rattle.nucleus.specs.View.{held, refused, deskOf}
 use Rattle.nucleus.specs.Looks.{lowest-some, lowest-full}
 use Rattle.nucleus.proofs.State.empty_place.Statement.{statement}
 use Rattle.nucleus.proofs.State.empty_place.Tie as tie

@@ -1,11 +1,10 @@
 -- `State::live` meets its contract: the live count is the ones of the filled set.
 use borrow.Author.Needs.{needs}
-use Rattle.nucleus.specs.View.{held, refused}
 use borrow.Author.Tests.{not-true, not-false}
 use mathlib.Core.Path.{refl, sym, _∙_}
 use Rattle.table.specs.Cells.{standsAt}
 use Rattle.table.specs.Choose.{live-is}
-use Rattle.nucleus.specs.View.{deskOf}
+use Rattle.nucleus.specs.View.{held, refused, deskOf}
 use Rattle.nucleus.proofs.State.live.Statement.{statement}
 use Rattle.nucleus.proofs.State.live.Tie as tie
 

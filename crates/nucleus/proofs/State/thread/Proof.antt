@@ -1,10 +1,9 @@
 -- `State::thread` meets its contract.
 use borrow.Author.Needs.{needs}
-use Rattle.nucleus.specs.View.{held, refused}
 use borrow.Author.Tests.{not-true, not-false}
 use mathlib.Core.Path.{sym, _∙_}
 use Rattle.table.specs.Rows.{thread-at}
-use Rattle.nucleus.specs.View.{deskOf}
+use Rattle.nucleus.specs.View.{held, refused, deskOf}
 use Rattle.nucleus.specs.Looks.{thread-past}
 use Rattle.nucleus.proofs.State.thread.Statement.{statement}
 use Rattle.nucleus.proofs.State.thread.Tie as tie
