@@ -1,12 +1,12 @@
 -- A BOARD THAT COMES BACK (demand 3, as C sees it): the image of the last call before a save, and a log of the records handed over since, cut at any byte, are
 -- handed to `rumqatiss_replay`. So the C side need believe nothing but the rules.
-use mathlib.Core.Path.{_≡_, refl, sym, ap, ap₂, subst, _∙_}
+use mathlib.Core.Path.{_≡_, refl, sym, ap, ap₂, _∙_}
 use mathlib.Core.List.{List, [], _∷_, _++_, append-nil}
-use mathlib.Core.Bool.{true, false, cond}
+use mathlib.Core.Bool.{cond}
 use Prim.Native.Nat.{ℕ, _+_, _≤_}
 use native.Mathlib.Omega.{arith}
 use borrow.Author.Tests.{eqb-true, le-ltb}
-use lib.Dec.{eqb, ltb}
+use lib.Dec.{eqb}
 use lib.ListN.{length, take, drop, length-take}
 use lib.Seq.{take-at, drop-length}
 use Rattle.lists.specs.Laws.{by-test}
@@ -25,7 +25,7 @@ use Rattle.image.specs.Format.{encode}
 use Rattle.image.specs.Longest.{longestImage, longest}
 use Rattle.image.specs.Accepts.{refuses-not}
 use Rattle.image.specs.Injective.{encode-injective}
-use Rattle.logbook.specs.Log.{limit, Parsed, recordsIn, logOf}
+use Rattle.logbook.specs.Log.{limit, Parsed, logOf}
 use Rattle.logbook.specs.Cut.{wholeIn, cutCode, cutAt, cut-log, fit-whole}
 use Rattle.logbook.specs.History.{log-append, after-append}
 use Rattle.board.specs.Promise.{placed, kept, replayOn, Replays, unread, played, freshOn}
