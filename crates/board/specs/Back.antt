@@ -1,22 +1,22 @@
--- A BOARD THAT COMES BACK (demand 3, as C sees it): the image of the last call before a save, and a log of the records handed over since, cut at any byte, are
--- handed to `rumqatiss_replay`. So the C side need believe nothing but the rules.
+-- A BOARD THAT COMES BACK (demand 3, as C sees it), boot after boot, as its start code does it: what `rumqatiss_fresh`, `rumqatiss_board` and
+-- `rumqatiss_replay` promise, and nothing else. So the C side need believe nothing but the rules.
 use mathlib.Core.Path.{_≡_, refl, sym, ap, ap₂, _∙_}
-use mathlib.Core.List.{List, [], _∷_, _++_, append-nil}
+use mathlib.Core.List.{List, [], _∷_, _++_, append-assoc, append-nil}
 use mathlib.Core.Bool.{cond}
 use Prim.Native.Nat.{ℕ, _+_, _≤_}
 use native.Mathlib.Omega.{arith}
-use borrow.Author.Tests.{eqb-true, le-ltb}
-use lib.Dec.{eqb}
+use borrow.Author.Tests.{eqb-true, lt-ltb, le-ltb}
+use lib.Dec.{eqb, ltb}
 use lib.ListN.{length, take, drop, length-take}
 use lib.Seq.{take-at, drop-length}
 use Rattle.lists.specs.Laws.{by-test}
 use Rattle.lists.specs.Every.{Every}
 use Rattle.rules.specs.Values.{choiceKind, choiceRuns}
 use Rattle.rules.specs.Model.{Model}
-use Rattle.rules.specs.Rules.{fresh, after, choice as chosen}
+use Rattle.rules.specs.Rules.{refusal, fresh, after, choice as chosen}
 use Rattle.rules.specs.Consistent.{Consistent}
 use Rattle.rules.specs.declared.Event.{Event}
-use Rattle.order.specs.Keeps.{AllFit, always}
+use Rattle.order.specs.Keeps.{AllFit, fresh-consistent, always}
 use Rattle.journal.specs.Format.{recordOf, readAt}
 use Rattle.journal.specs.Laws.{Bytes, read-whole}
 use Rattle.journal.specs.declared.Read.{Read}
@@ -26,24 +26,25 @@ use Rattle.image.specs.Longest.{longestImage, longest}
 use Rattle.image.specs.Accepts.{refuses-not}
 use Rattle.image.specs.Injective.{encode-injective}
 use Rattle.logbook.specs.Log.{limit, Parsed, logOf}
-use Rattle.logbook.specs.Cut.{wholeIn, cutCode, cutAt, cut-log, fit-whole}
-use Rattle.logbook.specs.History.{log-append, after-append}
+use Rattle.logbook.specs.Cut.{wholeIn, cutCode, cutAt, fit-append, fit-whole, cut-log}
+use Rattle.logbook.specs.History.{refusal-low, log-append, after-append, whole-log}
 use Rattle.board.specs.Promise.{placed, kept, replayOn, Replays, unread, played, freshOn}
-use Rattle.board.specs.Runs.{heard, eventsOf, history, Calls, board-runs}
+use Rattle.board.specs.Runs.{heard, eventsOf, history, saidOf, allSaid, Calls, calls-bytes, Ran, ran}
 use Rattle.board.specs.declared.Told.{Told}
 use Rattle.board.specs.declared.Brought.{Brought}
 
--- ---- the log that the C side keeps: what was handed over, if it was exactly one record
-abbrev pub loggedAs : Read → ℕ → List ℕ → List ℕ
-loggedAs (Record e n) size rec = cond (eqb n size) rec []
-loggedAs AtEnd size rec = []
-loggedAs CutShort size rec = []
-loggedAs UnknownKind size rec = []
-loggedAs PastEnd size rec = []
+-- ---- the log that the C side keeps: what was handed over, where the code says that it was a record
+-- the codes below this one: the event happened, or the rules refused it
+abbrev pub eventCodes : ℕ
+eventCodes = 7
 
-abbrev pub logged : List (List ℕ) → List ℕ
-logged [] = []
-logged (rec ∷ recs) = loggedAs (readAt rec 0) (length rec) rec ++ logged recs
+abbrev pub loggedAs : Told → List ℕ → List ℕ
+loggedAs t rec = cond (ltb (t .code) eventCodes) rec []
+
+abbrev pub logged : List Told → List (List ℕ) → List ℕ
+logged [] recs = []
+logged (t ∷ ts) [] = []
+logged (t ∷ ts) (rec ∷ recs) = loggedAs t rec ++ logged ts recs
 
 -- a record that is one is that of its event
 one-record : (rec : List ℕ) → Bytes rec → (e : Event) → readAt rec 0 ≡ Record e (length rec) → rec ≡ recordOf e
@@ -51,37 +52,50 @@ one-record rec b e q =
     let w = read-whole rec 0 e (length rec) b q in
     w .bytes ∙ ap (λ (l : List ℕ). recordOf e ++ l) (drop-length rec) ∙ append-nil (recordOf e)
 
-logged-one : (rec : List ℕ) → Bytes rec → (r : Read) → readAt rec 0 ≡ r → (loggedAs r (length rec) rec ≡ logOf (heard r (length rec))) × AllFit (heard r (length rec))
-logged-one rec b (Record e n) q =
+logged-one : (m : Model) (rec : List ℕ) → Bytes rec → (r : Read) → readAt rec 0 ≡ r
+    → (loggedAs (saidOf m r (length rec)) rec ≡ logOf (heard r (length rec))) × AllFit (heard r (length rec))
+logged-one m rec b (Record e n) q =
     by-test (eqb n (length rec))
     (λ t.
     let z = eqb-true n (length rec) t in
     let p : readAt rec 0 ≡ Record e (length rec) = q ∙ ap (Record e) z in
-    rw t (one-record rec b e p ∙ sym (append-nil (recordOf e)), (read-whole rec 0 e n b q .fits, tt {0})))
+    let l = refusal-low e m in
+    rw (t, lt-ltb (refusal e m) eventCodes (omega arith)) (one-record rec b e p ∙ sym (append-nil (recordOf e)), (read-whole rec 0 e n b q .fits, tt {0})))
     (λ t. rw t (refl, tt {0}))
-logged-one rec b AtEnd q = (refl, tt)
-logged-one rec b CutShort q = (refl, tt)
-logged-one rec b UnknownKind q = (refl, tt)
-logged-one rec b PastEnd q = (refl, tt)
-
-fit-append : (es fs : List Event) → AllFit es → AllFit fs → AllFit (es ++ fs)
-fit-append [] fs f g = g
-fit-append (e ∷ es) fs f g = (f .0, fit-append es fs (f .1) g)
+logged-one m rec b AtEnd q = (refl, tt)
+logged-one m rec b CutShort q = (refl, tt)
+logged-one m rec b UnknownKind q = (refl, tt)
+logged-one m rec b PastEnd q = (refl, tt)
 
 -- so the log is that of the history
-logged-all : (recs : List (List ℕ)) → Every Bytes recs → (logged recs ≡ logOf (history recs)) × AllFit (history recs)
-logged-all [] b = (refl, tt)
-logged-all (rec ∷ recs) b =
-    let o = logged-one rec (b .0) (readAt rec 0) refl in
-    let i = logged-all recs (b .1) in
+logged-all : (m : Model) (recs : List (List ℕ)) → Every Bytes recs → (logged (allSaid m recs) recs ≡ logOf (history recs)) × AllFit (history recs)
+logged-all m [] b = (refl, tt)
+logged-all m (rec ∷ recs) b =
+    let o = logged-one m rec (b .0) (readAt rec 0) refl in
+    let i = logged-all (after (eventsOf rec) m) recs (b .1) in
     (ap₂ (λ (x y : List ℕ). x ++ y) (o .0) (i .0) ∙ sym (log-append (eventsOf rec) (history recs)), fit-append (eventsOf rec) (history recs) (o .1) (i .1))
 
+-- ---- what a board lives through
+-- bs: the events before the image in its store; fs: those since. image: the present one. kept, log: what stands in its store.
+pub data Boarded : List Event → List Event → List ℕ → List ℕ → List ℕ → Type 0 where
+  -- its first boot: the fresh image is the present one, and kept with an empty log
+  begun : (out : List ℕ) {a : List ℕ} {c n : ℕ} → longestImage ≤ length out → (c, n, a) ≡ freshOn out → Boarded [] [] (take n a) (take n a) []
+  -- records are handed over one after the other, and logged
+  handed : {bs fs : List Event} {image last kept log : List ℕ} {recs : List (List ℕ)} {ts : List Told} → Boarded bs fs image kept log → Calls image recs ts last
+      → Boarded bs (fs ++ history recs) last kept (log ++ logged ts recs)
+  -- the present image takes the place of the one kept, with an empty log
+  renewed : {bs fs : List Event} {image kept log : List ℕ} → Boarded bs fs image kept log → Boarded (bs ++ fs) [] image image []
+  -- The power fails, and the first k bytes of the log are left. They are replayed on the image kept, which gives the present one; what stands behind the
+  -- records that came back is cut off.
+  back : {bs fs : List Event} {image kept log out buffer : List ℕ} {k : ℕ} {t : Brought} → Boarded bs fs image kept log → k ≤ length log → k ≤ limit → longestImage ≤ length out
+      → Replays kept (take k log) out (t, buffer) → Boarded bs (wholeIn k fs) (take (t .length) buffer) kept (take (t .bytes) log)
+
 -- ---- what comes back
--- es: the events before the image. whole: those of the log whose records are whole in the cut, of k bytes.
-pub record Back (es whole : List Event) (k : ℕ) (t : Brought) (buffer : List ℕ) : Type 0 where
-  pub image : take (t .length) buffer ≡ encode (after (es ++ whole) fresh)
-  pub choice : t .choice ≡ choiceKind (chosen (after (es ++ whole) fresh))
-  pub next : t .next ≡ choiceRuns (chosen (after (es ++ whole) fresh))
+-- bs: the events before the image kept. whole: those of the log whose records are whole in the cut, of k bytes.
+pub record Back (bs whole : List Event) (k : ℕ) (t : Brought) (buffer : List ℕ) : Type 0 where
+  pub image : take (t .length) buffer ≡ encode (after (bs ++ whole) fresh)
+  pub choice : t .choice ≡ choiceKind (chosen (after (bs ++ whole) fresh))
+  pub next : t .next ≡ choiceRuns (chosen (after (bs ++ whole) fresh))
   pub records : t .records ≡ length whole
   pub bytes : t .bytes ≡ length (logOf whole)
   pub code : t .code ≡ cutCode k (length (logOf whole))
@@ -101,21 +115,26 @@ brings m C es f k h g {out = out} e w (played n D d q) =
     let l = length-take k (logOf es) in
     q ∙ ap (λ (m : Model). replayOn m (take k (logOf es)) out) x ∙ rw (le-ltb limit (length (take k (logOf es))) (omega arith)) (ap (λ (p : Parsed). kept m p out) (cut-log es f k h))
 
--- From the fresh image, records are handed over; the image then is kept, and of what is handed over after it a log. Cut at any byte, it brings the image of
--- the rules' state back: after the records before, and those of the log that are whole.
-pub board-back : (first : List ℕ) {a image : List ℕ} {c n : ℕ} {recs : List (List ℕ)} {ts : List Told} → longestImage ≤ length first → (c, n, a) ≡ freshOn first → Calls (take n a) recs ts image
-    → (later : List (List ℕ)) → Every Bytes later → (k : ℕ) → k ≤ length (logged later) → k ≤ limit → {out buffer : List ℕ} {t : Brought} → longestImage ≤ length out
-    → Replays image (take k (logged later)) out (t, buffer) → Back (history recs) (wholeIn k (history later)) k t buffer
-board-back first {recs = recs} r e calls later b k h g {out} {buffer} {t} w R =
-    let B = board-runs first r e calls in
-    let L = logged-all later b in
-    let es : List Event = wholeIn k (history later) in
-    let m : Model = after (history recs) fresh in
-    let F : Replays _ (take k (logOf (history later))) out (t, buffer) = rw (L .0) at R in
-    let j : k ≤ length (logOf (history later)) = rw (L .0) at h in
-    let C : Consistent (after es m) = always es m (B .consistent) (fit-whole k (history later) (L .1)) in
-    let q = brings m (B .consistent) (history later) (L .1) k j g (sym (B .image)) w F ∙ kept-back m (cutAt k (history later)) out C w in
-    let z : after es m ≡ after (history recs ++ es) fresh = sym (after-append (history recs) es fresh) in
+-- ---- at any time the images are those of the rules' states, and the log is that of the history
+record Stays (bs fs : List Event) (image kept log : List ℕ) : Type 0 where
+  present : image ≡ encode (after (bs ++ fs) fresh)
+  at-save : kept ≡ encode (after bs fresh)
+  records : log ≡ logOf fs
+  before : AllFit bs
+  since : AllFit fs
+
+-- what comes back of such a store
+stays-back : {bs fs : List Event} {image kept log : List ℕ} → Stays bs fs image kept log → (k : ℕ) → k ≤ length log → k ≤ limit → {out buffer : List ℕ} {t : Brought}
+    → longestImage ≤ length out → Replays kept (take k log) out (t, buffer) → Back bs (wholeIn k fs) k t buffer
+stays-back {bs} {fs} {kept = kept} S k h g {out} {buffer} {t} w R =
+    let es : List Event = wholeIn k fs in
+    let m : Model = after bs fresh in
+    let C : Consistent m = always bs fresh fresh-consistent (S .before) in
+    let F : Replays kept (take k (logOf fs)) out (t, buffer) = rw (S .records) at R in
+    let j : k ≤ length (logOf fs) = rw (S .records) at h in
+    let D : Consistent (after es m) = always es m C (fit-whole k fs (S .since)) in
+    let q = brings m C fs (S .since) k j g (sym (S .at-save)) w F ∙ kept-back m (cutAt k fs) out D w in
+    let z : after es m ≡ after (bs ++ es) fresh = sym (after-append bs es fresh) in
     let i : List ℕ = encode (after es m) in
     record {
       image = ap (λ (x : Brought × List ℕ). take (x .0 .length) (x .1)) q ∙ take-at i (drop (length i) out) (length i) refl ∙ ap encode z;
@@ -125,3 +144,65 @@ board-back first {recs = recs} r e calls later b k h g {out} {buffer} {t} w R =
       bytes = ap (λ (x : Brought × List ℕ). x .0 .bytes) q;
       code = ap (λ (x : Brought × List ℕ). x .0 .code) q;
     }
+
+-- what is handed over to its present image
+stays-runs : {bs fs : List Event} {image kept log last : List ℕ} {recs : List (List ℕ)} {ts : List Told} → Stays bs fs image kept log → Calls image recs ts last
+    → Ran (after (bs ++ fs) fresh) recs ts last
+stays-runs {bs} {fs} S k = ran (after (bs ++ fs) fresh) (always (bs ++ fs) fresh fresh-consistent (fit-append bs fs (S .before) (S .since))) (sym (S .present)) k
+
+fresh-front : (out : List ℕ) {a : List ℕ} {c n : ℕ} → length (encode fresh) ≤ length out → (c, n, a) ≡ freshOn out → encode fresh ≡ take n a
+fresh-front out {a} {c} {n} h e =
+    let i : List ℕ = encode fresh in
+    let w : _≡_ {A = ℕ × ℕ × List ℕ} (c, n, a) (0, length i, i ++ drop (length i) out) = rw (le-ltb (length out) (length i) h) at e in
+    sym (take-at i (drop (length i) out) (length i) refl) ∙ ap (λ (x : ℕ × ℕ × List ℕ). take (x .1) (x .2)) (sym w)
+
+stays : {bs fs : List Event} {image kept log : List ℕ} → Boarded bs fs image kept log → Stays bs fs image kept log
+stays (begun out h e) =
+    let l = longest fresh fresh-consistent in
+    let f = fresh-front out (omega arith) e in
+    record { present = sym f; at-save = sym f; records = refl; before = tt {0}; since = tt {0} }
+stays (handed {bs = bs} {fs = fs} {log = log} {recs = recs} {ts = ts} B k) =
+    let S = stays B in
+    let R = stays-runs S k in
+    let L = logged-all (after (bs ++ fs) fresh) recs (calls-bytes k) in
+    let new : logged ts recs ≡ logOf (history recs) = ap (λ (x : List Told). logged x recs) (R .answers) ∙ L .0 in
+    let h : after (history recs) (after (bs ++ fs) fresh) ≡ after (bs ++ (fs ++ history recs)) fresh =
+    sym (after-append (bs ++ fs) (history recs) fresh) ∙ ap (λ (l : List Event). after l fresh) (append-assoc bs fs (history recs)) in
+    record {
+      present = R .image ∙ ap encode h;
+      at-save = S .at-save;
+      records = ap₂ (λ (x y : List ℕ). x ++ y) (S .records) new ∙ sym (log-append fs (history recs));
+      before = S .before;
+      since = fit-append fs (history recs) (S .since) (L .1);
+    }
+stays (renewed {bs = bs} {fs = fs} B) =
+    let S = stays B in
+    record {
+      present = S .present ∙ ap (λ (l : List Event). encode (after l fresh)) (sym (append-nil (bs ++ fs)));
+      at-save = S .present;
+      records = refl;
+      before = fit-append bs fs (S .before) (S .since);
+      since = tt {0};
+    }
+stays (back {bs = bs} {fs = fs} {log = log} {k = k} B h g w r) =
+    let S = stays B in
+    let b = stays-back S k h g w r in
+    record {
+      present = b .image;
+      at-save = S .at-save;
+      records = ap₂ (λ (n : ℕ) (l : List ℕ). take n l) (b .bytes) (S .records) ∙ whole-log k fs;
+      before = S .before;
+      since = fit-whole k fs (S .since);
+    }
+
+-- ---- the theorems
+module _ {bs fs : List Event} {image kept log : List ℕ} (life : Boarded bs fs image kept log) where
+  -- Whatever is handed over, at any time of its life: images, codes, choices and numbers are those of the rules, for the history so far.
+  pub board-runs : {last : List ℕ} {recs : List (List ℕ)} {ts : List Told} → Calls image recs ts last → Ran (after (bs ++ fs) fresh) recs ts last
+  board-runs = stays-runs (stays life)
+
+  -- Whenever the power fails: the image kept, and the log cut at any byte, bring back the image of the rules' state after the events before the image, and
+  -- those of the log that are whole.
+  pub board-back : (k : ℕ) → k ≤ length log → k ≤ limit → {out buffer : List ℕ} {t : Brought} → longestImage ≤ length out → Replays kept (take k log) out (t, buffer)
+      → Back bs (wholeIn k fs) k t buffer
+  board-back = stays-back (stays life)

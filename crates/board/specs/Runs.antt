@@ -1,5 +1,5 @@
--- A BOARD THAT RUNS: from the fresh image, any records handed over one after the other, each with the image that the last accepted call gave and a buffer with
--- room. The images are those of the rules' states for that history, and codes, choices and numbers are the rules'. After a power failure: Back.antt.
+-- A BOARD THAT RUNS: any records handed over one after the other, each with the image that the last accepted call gave and a buffer with room. The images are
+-- those of the rules' states for that history, and codes, choices and numbers are the rules'. From the first boot on, power failures among them: Back.antt.
 use mathlib.Core.Path.{_≡_, refl, sym, ap, ap₂, subst, _∙_}
 use mathlib.Core.Logic.{_≢_}
 use mathlib.Core.List.{List, [], _∷_, _++_}
@@ -11,13 +11,14 @@ use lib.Dec.{eqb, ltb}
 use lib.ListN.{length, take, drop}
 use lib.Seq.{take-at}
 use Rattle.lists.specs.Laws.{by-test}
+use Rattle.lists.specs.Every.{Every}
 use Rattle.rules.specs.Values.{nobody, choiceKind, choiceRuns}
 use Rattle.rules.specs.Model.{Model}
-use Rattle.rules.specs.Rules.{Outcome, outcome, full, refusal, given, fresh, next, after, choice}
+use Rattle.rules.specs.Rules.{Outcome, outcome, full, refusal, given, next, after, choice}
 use Rattle.rules.specs.Consistent.{Fits, Consistent}
 use Rattle.rules.specs.declared.Event.{Event}
 use Rattle.rules.specs.declared.Event.the-variants.{Create, Send, Receive, Reply, End, WaitClock, SliceEnd, Tick}
-use Rattle.order.specs.Keeps.{keeps, fresh-consistent}
+use Rattle.order.specs.Keeps.{keeps}
 use Rattle.journal.specs.Format.{readAt}
 use Rattle.journal.specs.Laws.{Bytes, read-whole}
 use Rattle.journal.specs.declared.Read.{Read}
@@ -27,7 +28,7 @@ use Rattle.image.specs.Longest.{longestImage, longest}
 use Rattle.image.specs.Accepts.{refuses-not}
 use Rattle.image.specs.Injective.{encode-injective}
 use Rattle.logbook.specs.History.{after-append}
-use Rattle.board.specs.Promise.{declined, acted, badCode, taken, stepOn, Boards, unloaded, stepped, freshOn}
+use Rattle.board.specs.Promise.{declined, acted, badCode, taken, stepOn, Boards, unloaded, stepped}
 use Rattle.board.specs.declared.Told.{Told}
 
 -- ---- what the rules say of any bytes that are handed over as a record
@@ -74,6 +75,11 @@ pub data Calls : List ℕ → List (List ℕ) → List Told → List ℕ → Typ
       → Calls (take (t .length) after) recs ts last → Calls image (rec ∷ recs) (t ∷ ts) last
   refused : {image rec out after last : List ℕ} {recs : List (List ℕ)} {t : Told} {ts : List Told} → Bytes rec → longestImage ≤ length out → Boards image rec out (t, after) → t .code ≢ 0
       → Calls image recs ts last → Calls image (rec ∷ recs) (t ∷ ts) last
+
+pub calls-bytes : {image last : List ℕ} {recs : List (List ℕ)} {ts : List Told} → Calls image recs ts last → Every Bytes recs
+calls-bytes over = tt {0}
+calls-bytes (accepted b h k z rest) = (b, calls-bytes rest)
+calls-bytes (refused b h k z rest) = (b, calls-bytes rest)
 
 -- ---- one call
 -- m became n, and this was said: an accepted call has the image of n in front, a refused one has changed nothing
@@ -150,13 +156,13 @@ heard-consistent m CutShort size C f = C
 heard-consistent m UnknownKind size C f = C
 heard-consistent m PastEnd size C f = C
 
--- ---- all of them
+-- ---- all of them, from an image that stands for m
 pub record Ran (m : Model) (recs : List (List ℕ)) (ts : List Told) (last : List ℕ) : Type 0 where
   pub image : last ≡ encode (after (history recs) m)
   pub answers : ts ≡ allSaid m recs
   pub consistent : Consistent (after (history recs) m)
 
-ran : {image last : List ℕ} {recs : List (List ℕ)} {ts : List Told} (m : Model) → Consistent m → encode m ≡ image → Calls image recs ts last → Ran m recs ts last
+pub ran : {image last : List ℕ} {recs : List (List ℕ)} {ts : List Told} (m : Model) → Consistent m → encode m ≡ image → Calls image recs ts last → Ran m recs ts last
 ran m C e over = record { image = sym e; answers = refl; consistent = C }
 ran m C e (accepted {rec = rec} {recs = recs} b h k z rest) =
     let s = step-on m C e b h k in
@@ -191,13 +197,3 @@ taken-still m PastEnd size out h = refl
 pub refused-still : {image rec out : List ℕ} {t : Told × List ℕ} → Boards image rec out t → t .0 .code ≢ 0 → t .1 ≡ out
 refused-still (unloaded c R g) z = ap (λ (x : Told × List ℕ). x .1) g
 refused-still {rec = rec} {out = out} (stepped m C e g) z = ap (λ (x : Told × List ℕ). x .1) g ∙ taken-still m (readAt rec 0) (length rec) out (rw g at z)
-
--- ---- from the fresh image
-fresh-front : (out : List ℕ) {a : List ℕ} {c n : ℕ} → length (encode fresh) ≤ length out → (c, n, a) ≡ freshOn out → encode fresh ≡ take n a
-fresh-front out {a} {c} {n} h e =
-    let i : List ℕ = encode fresh in
-    let w : _≡_ {A = ℕ × ℕ × List ℕ} (c, n, a) (0, length i, i ++ drop (length i) out) = rw (le-ltb (length out) (length i) h) at e in
-    sym (take-at i (drop (length i) out) (length i) refl) ∙ ap (λ (x : ℕ × ℕ × List ℕ). take (x .1) (x .2)) (sym w)
-
-pub board-runs : (out : List ℕ) {a last : List ℕ} {c n : ℕ} {recs : List (List ℕ)} {ts : List Told} → longestImage ≤ length out → (c, n, a) ≡ freshOn out → Calls (take n a) recs ts last → Ran fresh recs ts last
-board-runs out h e k = let l = longest fresh fresh-consistent in ran fresh fresh-consistent (fresh-front out (omega arith) e) k

@@ -110,6 +110,10 @@ cut-parts k (e ∷ es) h =
     by-test (ltb k n) (λ t. cut-in k e es (ltb-true k n t) t) (λ t. cut-on k e es (ltb-false k n t) t (ih (ltb-false k n t)))
 
 -- ---- so what is read in it is what the cut leaves
+pub fit-append : (es fs : List Event) → AllFit es → AllFit fs → AllFit (es ++ fs)
+fit-append [] fs f g = g
+fit-append (e ∷ es) fs f g = (f .0, fit-append es fs (f .1) g)
+
 pub fit-whole : (k : ℕ) (es : List Event) → AllFit es → AllFit (wholeIn k es)
 fit-whole k [] f = f
 fit-whole k (e ∷ es) f =

@@ -24,7 +24,7 @@ use Rattle.nucleus.specs.Settled.{shows-one}
 use Rattle.nucleus.specs.declared.State.{State}
 use Rattle.logbook.specs.Log.{limit, Room, Parsed, recordsIn, logOf}
 use Rattle.logbook.specs.Promise.{unwritten, Acted, Records, inconsistent, no-room, written, Came, Replays, too-long, came}
-use Rattle.logbook.specs.Cut.{wholeIn, readTo, cutAt, cut-parts, cut-log, whole-front, whole-all}
+use Rattle.logbook.specs.Cut.{wholeIn, readTo, cutAt, fit-append, fit-whole, cut-log, whole-front, whole-all}
 use Rattle.logbook.specs.declared.Recorded.{Recorded}
 use Rattle.logbook.specs.declared.Replayed.{Replayed}
 
@@ -59,7 +59,7 @@ record Begins (s : State) (log : List ℕ) (at : ℕ) : Type 0 where
 gives-low : (b : Bool) (c d : ℕ) → c < 7 → d < 7 → (b gives c else d) < 7
 gives-low b c d h g = by-test b (λ t. rw t h) (λ t. rw t g)
 
-refusal-low : (e : Event) (m : Model) → refusal e m < 7
+pub refusal-low : (e : Event) (m : Model) → refusal e m < 7
 refusal-low Create m = gives-low (full m) 6 0 (omega arith) (omega arith)
 refusal-low (Send d w) m =
     gives-low (idle m) 1 _ (omega arith)
@@ -145,34 +145,7 @@ leaves b (dropped {e = e} (written k f i a w) n rest) = absurd (not-dropped e _ 
 pub session-leaves : {s t : State} {log end : List ℕ} {at q : ℕ} {es : List Event} → Consists s → at ≤ length log → at ≤ limit → Session s log at es t end q → Leaves s log at es t end q
 session-leaves k h g z = leaves (record { consists = k; within = h; short = g }) z
 
--- ---- cut and replayed
--- Demand 3's log is the bytes from 0 to the last position returned. It is replayed on a state that stands for what the session began with, as one does
--- that was saved then and is loaded now.
-module _ {s s₀ t : State} {log end : List ℕ} {q : ℕ} {es : List Event} (k : Consists s) (z : Session s log 0 es t end q) (l : Shows s₀ (view s)) where
-  left : Leaves s log 0 es t end q
-  left = session-leaves k (omega arith) (omega arith) z
-
-  cut-is : (n : ℕ) → n ≤ q → take n end ≡ take n (logOf es)
-  cut-is n h = sym (take-take n q end h) ∙ ap (take n) (left .bytes)
-
-  -- The first n bytes of the log: the state after the events whose records are whole in them, and exactly these records and bytes are counted.
-  pub history : (n : ℕ) → n ≤ q → {r : Replayed} → Replays s₀ (take n end) r → Came (view s) (cutAt n es) r
-  history n h (inconsistent m a) = absurd (m (l .consists))
-  history n h (too-long m g a) = let p = left .short in let y = length-take n end in absurd (omega arith)
-  history n h {r} (came m g a) =
-      let y : recordsIn (take n end) 0 ≡ cutAt n es = ap (λ (x : List ℕ). recordsIn x 0) (cut-is n h) ∙ cut-log es (left .fits) n (omega (arith, left .position)) in
-      let b : Came (view s) (recordsIn (take n end) 0) r = subst (λ (m : Model). Came m (recordsIn (take n end) 0) r) (l .seen) a in
-      subst (λ (p : Parsed). Came (view s) p r) y b
-
-  -- Nothing cut: replay ends in the very state that the session ended in, byte for byte.
-  pub history-whole : {r : Replayed} → Replays s₀ (take q end) r → (r .state ≡ t) × (r .code ≡ 0) × (r .records ≡ length es) × (r .bytes ≡ q)
-  history-whole {r} p =
-      let n : q ≡ length (logOf es) = omega (arith, left .position) in
-      let w : wholeIn q es ≡ es = whole-all q es (omega arith) in
-      let a : Came (view s) (readTo q es) r = subst (λ (x : List Event). Came (view s) (readTo q x) r) w (history q (omega arith) p) in
-      (shows-one (a .state) (left .state), a .code ∙ rw (eq-eqb (length (logOf es)) q (sym n)), a .records, a .bytes ∙ sym n)
-
--- ---- and recording goes on
+-- ---- what a log holds
 pub log-append : (es fs : List Event) → logOf (es ++ fs) ≡ logOf es ++ logOf fs
 log-append [] fs = refl
 log-append (e ∷ es) fs = ap (λ (l : List ℕ). recordOf e ++ l) (log-append es fs) ∙ sym (append-assoc (recordOf e) (logOf es) (logOf fs))
@@ -181,23 +154,71 @@ pub after-append : (es fs : List Event) (m : Model) → after (es ++ fs) m ≡ a
 after-append [] fs m = refl
 after-append (e ∷ es) fs m = after-append es fs (next e m)
 
--- From the replayed state, at the byte where replay stopped, in a buffer that has those bytes (half a record behind them is written over): the log is
--- then that of one history, the events before the cut and those that came after.
-module _ {s s₀ t : State} {log end : List ℕ} {q : ℕ} {es : List Event} (k : Consists s) (z : Session s log 0 es t end q) (l : Shows s₀ (view s))
-    {n : ℕ} (h : n ≤ q) {r : Replayed} (p : Replays s₀ (take n end) r) where
-  pub history-on : {buf end′ : List ℕ} {fs : List Event} {t′ : State} {q′ : ℕ} → take (r .bytes) buf ≡ take (r .bytes) end → r .bytes ≤ length buf → Session (r .state) buf (r .bytes) fs t′ end′ q′
-      → Shows t′ (after (wholeIn n es ++ fs) (view s)) × (take q′ end′ ≡ logOf (wholeIn n es ++ fs)) × (q′ ≡ length (logOf (wholeIn n es ++ fs)))
-  history-on {fs = fs} e b y =
-      let w : List Event = wholeIn n es in
-      let a = history k z l n h p in
-      let o = left k z l in
+-- the records that are whole in a cut are the front of the log
+pub whole-log : (n : ℕ) (es : List Event) → take (length (logOf (wholeIn n es))) (logOf es) ≡ logOf (wholeIn n es)
+whole-log n es =
+    let w : List Event = wholeIn n es in
+    let f = whole-front n es in
+    ap (take (length (logOf w))) (ap logOf (f .same) ∙ log-append w (f .others)) ∙ take-at (logOf w) (logOf (f .others)) (length (logOf w)) refl
+
+-- up to the position q: the records of these events, one after the other, and nothing else
+pub record Holds (log : List ℕ) (q : ℕ) (es : List Event) : Type 0 where
+  pub bytes : take q log ≡ logOf es
+  pub position : q ≡ length (logOf es)
+  pub within : q ≤ length log
+  pub short : q ≤ limit
+  pub fits : AllFit es
+
+-- At first it holds nothing, whatever stands in the buffer.
+pub holds-none : (log : List ℕ) → Holds log 0 []
+holds-none log = record { bytes = refl; position = refl; within = omega arith; short = omega arith; fits = tt {0} }
+
+-- Recording goes on where it ended: the log is then that of one history.
+pub holds-on : {s t : State} {log end : List ℕ} {at q : ℕ} {es fs : List Event} → Holds log at es → Consists s → Session s log at fs t end q → Holds end q (es ++ fs)
+holds-on {es = es} {fs = fs} H k z =
+    let L = session-leaves k (H .within) (H .short) z in
+    let n : length (logOf (es ++ fs)) ≡ length (logOf es) + length (logOf fs) = ap length (log-append es fs) ∙ length-append (logOf es) (logOf fs) in
+    record {
+      bytes = L .bytes ∙ ap (λ (l : List ℕ). l ++ logOf fs) (H .bytes) ∙ sym (log-append es fs);
+      position = omega (arith, L .position, H .position);
+      within = omega (arith, L .within, L .size);
+      short = L .short;
+      fits = fit-append es fs (H .fits) (L .fits);
+    }
+
+module _ {log : List ℕ} {q : ℕ} {es : List Event} (H : Holds log q es) where
+  cut-is : (n : ℕ) → n ≤ q → take n log ≡ take n (logOf es)
+  cut-is n h = sym (take-take n q log h) ∙ ap (take n) (H .bytes)
+
+  -- Cut to its first n bytes, it holds the events whose records are whole in them, in any buffer that has their bytes: half a record behind them may be
+  -- written over.
+  pub holds-cut : (n : ℕ) → n ≤ q → {buf : List ℕ} {j : ℕ} → j ≡ length (logOf (wholeIn n es)) → take j buf ≡ take j log → j ≤ length buf → Holds buf j (wholeIn n es)
+  holds-cut n h {j = j} e y g =
       let v = whole-front n es .within in
-      let x = cut-parts n es (omega (arith, o .position)) in
-      let front : take (r .bytes) end ≡ logOf w =
-      ap (λ (i : ℕ). take i end) (a .bytes) ∙ sym (take-take (length (logOf w)) n end v) ∙ ap (take (length (logOf w))) (cut-is k z l n h ∙ x .bytes) ∙ take-at (logOf w) (x .rest) (length (logOf w)) refl in
-      let u = session-leaves (a .state .consists) b (omega (arith, a .bytes, o .short)) y in
-      let c : length (logOf (w ++ fs)) ≡ length (logOf w) + length (logOf fs) = ap length (log-append w fs) ∙ length-append (logOf w) (logOf fs) in (
-        record { consists = u .state .consists; seen = u .state .seen ∙ ap (after fs) (a .state .seen) ∙ sym (after-append w fs (view s)) },
-        u .bytes ∙ ap (λ (i : List ℕ). i ++ logOf fs) (e ∙ front) ∙ sym (log-append w fs),
-        omega (arith, u .position, a .bytes),
-      )
+      record { bytes = y ∙ cut-is j (omega arith) ∙ ap (λ (i : ℕ). take i (logOf es)) e ∙ whole-log n es; position = e; within = g; short = omega (arith, H .short); fits = fit-whole n es (H .fits) }
+
+  -- The first n bytes of it are replayed, on a state that stands for what it began with: the state after the events whose records are whole in them, and
+  -- exactly these records and bytes are counted.
+  pub holds-replayed : {s : State} {m : Model} → Shows s m → (n : ℕ) → n ≤ q → {r : Replayed} → Replays s (take n log) r → Came m (cutAt n es) r
+  holds-replayed S n h (inconsistent k a) = absurd (k (S .consists))
+  holds-replayed S n h (too-long k g a) = let p = H .short in let y = length-take n log in absurd (omega arith)
+  holds-replayed {m = m} S n h {r} (came k g a) =
+      let y : recordsIn (take n log) 0 ≡ cutAt n es = ap (λ (x : List ℕ). recordsIn x 0) (cut-is n h) ∙ cut-log es (H .fits) n (omega (arith, H .position)) in
+      let b : Came m (recordsIn (take n log) 0) r = subst (λ (m : Model). Came m (recordsIn (take n log) 0) r) (S .seen) a in
+      subst (λ (p : Parsed). Came m p r) y b
+
+-- ---- a session, cut and replayed
+-- Demand 3's log is the bytes from 0 to the last position returned. It is replayed on a state that stands for what the session began with, as one does
+-- that was saved then and is loaded now.
+module _ {s s₀ t : State} {log end : List ℕ} {q : ℕ} {es : List Event} (k : Consists s) (z : Session s log 0 es t end q) (l : Shows s₀ (view s)) where
+  pub history : (n : ℕ) → n ≤ q → {r : Replayed} → Replays s₀ (take n end) r → Came (view s) (cutAt n es) r
+  history = holds-replayed (holds-on (holds-none log) k z) l
+
+  -- Nothing cut: replay ends in the very state that the session ended in, byte for byte.
+  pub history-whole : {r : Replayed} → Replays s₀ (take q end) r → (r .state ≡ t) × (r .code ≡ 0) × (r .records ≡ length es) × (r .bytes ≡ q)
+  history-whole {r} p =
+      let L = session-leaves k (omega arith) (omega arith) z in
+      let n : q ≡ length (logOf es) = omega (arith, L .position) in
+      let w : wholeIn q es ≡ es = whole-all q es (omega arith) in
+      let a : Came (view s) (readTo q es) r = subst (λ (x : List Event). Came (view s) (readTo q x) r) w (history q (omega arith) p) in
+      (shows-one (a .state) (L .state), a .code ∙ rw (eq-eqb (length (logOf es)) q (sym n)), a .records, a .bytes ∙ sym n)

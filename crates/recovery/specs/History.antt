@@ -1,66 +1,82 @@
--- DEMAND 3, as one statement over what the public operations promise: a state is fresh, steps, is saved; later events are recorded; the power fails at
--- any byte of the log; the image is loaded and what is left of the log replayed. Put together from these promises and nothing else.
-use mathlib.Core.Path.{_≡_, refl, sym, ap, subst, _∙_}
-use mathlib.Core.List.{List, [], _∷_, _++_}
+-- DEMAND 3, as a terminal lives it, over what the public operations promise and nothing else: events come, the state is saved, later events are recorded; the
+-- power fails at any byte of the log; the image is loaded and what is left of the log replayed; and so on, in any order, boot after boot.
+use mathlib.Core.Path.{_≡_, sym, ap, subst, _∙_}
+use mathlib.Core.List.{List, [], _++_, append-assoc, append-nil}
 use Prim.Native.Nat.{ℕ, _+_, _≤_, _<_}
 use native.Mathlib.Omega.{arith}
 use lib.ListN.{length, take, length-append, length-take}
-use Rattle.rules.specs.Model.{Model}
-use Rattle.rules.specs.Rules.{fresh, choice, next, after}
+use Rattle.rules.specs.Rules.{fresh, choice, after}
+use Rattle.rules.specs.Consistent.{Consistent}
 use Rattle.rules.specs.declared.Event.{Event}
-use Rattle.order.specs.Keeps.{AllFit}
+use Rattle.order.specs.Keeps.{AllFit, fresh-consistent, always}
 use Rattle.journal.specs.Format.{recordOf}
-use Rattle.nucleus.specs.View.{view, Consists, Shows, held, refused}
-use Rattle.nucleus.specs.Answers.{Answers}
+use Rattle.nucleus.specs.View.{view, Consists, Shows}
 use Rattle.nucleus.specs.Settled.{shows-one}
 use Rattle.nucleus.specs.declared.State.{State}
 use Rattle.nucleus.specs.declared.Reply.{Reply}
 use Rattle.image.specs.Format.{encode}
 use Rattle.image.specs.Save.{Saves}
 use Rattle.image.specs.Loads.{Loads}
-use Rattle.image.specs.RoundTrip.{saves-well, saved-loads}
+use Rattle.image.specs.Accepts.{accepts, loads-back}
+use Rattle.image.specs.RoundTrip.{front-image}
 use Rattle.image.specs.declared.Loaded.{Loaded}
 use Rattle.logbook.specs.Log.{limit, Parsed, logOf}
 use Rattle.logbook.specs.Promise.{Came, Replays, inconsistent, too-long, came}
-use Rattle.logbook.specs.Cut.{Rest, none, half, wholeIn, cutCode, read-log}
-use Rattle.logbook.specs.History.{Session, history as replayed, after-append}
+use Rattle.logbook.specs.Cut.{Rest, none, half, wholeIn, cutCode, read-log, fit-append, fit-whole, whole-front}
+use Rattle.logbook.specs.History.{Session, session-leaves, after-append, Holds, holds-none, holds-on, holds-cut, holds-replayed}
 use Rattle.logbook.specs.declared.Replayed.{Replayed}
+use Rattle.recovery.specs.Chain.{Chain, chain-fits, chain-shows}
 
--- ---- events one after the other, by what `State::step` promises
-pub data Stepped : State → List Event → State → Type 0 where
-  stays : {s : State} → Stepped s [] s
-  steps : {s t : State} {e : Event} {es : List Event} {r : Reply} → Answers s e r → Stepped (r .state) es t → Stepped s (e ∷ es) t
+-- ---- what a terminal lives through
+-- What it has kept for its next boot: nothing yet; or an image, and a log that reaches to `end` in its buffer. bs: the events before the image was saved; fs:
+-- those recorded since.
+pub data Store : Type 0 where
+  empty : Store
+  kept : (bs fs : List Event) (image log : List ℕ) (end : ℕ) → Store
 
-pub stepped : {s t : State} {es : List Event} {m : Model} → Shows s m → Stepped s es t → Shows t (after es m)
-stepped S stays = S
-stepped {m = m} S (steps {e = e} (held k a) rest) = stepped (record { consists = a .state .consists; seen = a .state .seen ∙ ap (next e) (S .seen) }) rest
-stepped S (steps (refused n a) rest) = absurd (n (S .consists))
+-- The events that have happened, the state then, and what is kept.
+pub data Lived : List Event → State → Store → Type 0 where
+  -- it is fresh
+  born : {s : State} → Shows s fresh → Lived [] s empty
+  -- events come that nobody records
+  went : {s t : State} {es fs : List Event} {rs : List Reply} {k : Store} → Lived es s k → Chain s fs rs t → Lived (es ++ fs) t k
+  -- it is saved, and the log is empty from now on, whatever stands in its buffer
+  saved : {s : State} {es : List Event} {k : Store} {before buffer log : List ℕ} {n : ℕ} → Lived es s k → Saves s before 0 n buffer → Lived es s (kept es [] (take n buffer) log 0)
+  -- events are recorded where the log ends, with nothing unrecorded before them
+  recorded : {s t : State} {es bs fs gs : List Event} {image log log′ : List ℕ} {q q′ : ℕ} → Lived es s (kept bs fs image log q) → es ≡ bs ++ fs → Session s log q gs t log′ q′
+      → Lived (es ++ gs) t (kept bs (fs ++ gs) image log′ q′)
+  -- The power fails, and the first k bytes of the log are left. The image is loaded, and they are replayed. The log ends behind the records that came back, in
+  -- any buffer that has their bytes.
+  back : {s : State} {es bs fs : List Event} {image log buffer : List ℕ} {q k : ℕ} {l : Loaded} {r : Replayed} → Lived es s (kept bs fs image log q) → k ≤ q → Loads image l
+      → Replays (l .state) (take k log) r → take (r .bytes) buffer ≡ take (r .bytes) log → r .bytes ≤ length buffer → Lived (bs ++ wholeIn k fs) (r .state) (kept bs (wholeIn k fs) image buffer (r .bytes))
 
 -- ---- what comes back
--- es: the events before the save. whole: those recorded after it whose records are whole in the cut, of k bytes.
-pub record Back (es whole : List Event) (k : ℕ) (l : Loaded) (r : Replayed) : Type 0 where
+-- bs: the events before the save. whole: those recorded after it whose records are whole in the cut, of k bytes.
+pub record Back (bs whole : List Event) (k : ℕ) (l : Loaded) (r : Replayed) : Type 0 where
   pub loaded : l .code ≡ 0
-  pub state : Shows (r .state) (after (es ++ whole) fresh)
-  pub choice : r .choice ≡ choice (after (es ++ whole) fresh)
+  pub state : Shows (r .state) (after (bs ++ whole) fresh)
+  pub choice : r .choice ≡ choice (after (bs ++ whole) fresh)
   pub records : r .records ≡ length whole
   pub bytes : r .bytes ≡ length (logOf whole)
   pub code : r .code ≡ cutCode k (length (logOf whole))
 
--- s is the state after the events es. It is saved into a buffer with room, and the image is n bytes. From s on the events fs are recorded (those refused
--- with 11 left out), into a log that then reaches to q.
-module _ {s t : State} (es : List Event) {fs : List Event} {before image log end : List ℕ} {c n q : ℕ} (at-save : Shows s (after es fresh))
-    (room : length (encode (after es fresh)) ≤ length before) (save : Saves s before c n image) (record₁ : Session s log 0 fs t end q) where
-  is-saved : Saves s before 0 n image
-  is-saved = saves-well (at-save .consists) (subst (λ (m : Model). length (encode m) ≤ length before) (sym (at-save .seen)) room) save .1
+-- What is kept is good for that: the image is that of the events before it, the log holds those since, and what has happened is these, and then what nobody
+-- recorded.
+pub record Good (es bs fs : List Event) (image log : List ℕ) (q : ℕ) : Type 0 where
+  pub is-image : encode (after bs fresh) ≡ image
+  pub fits : AllFit bs
+  pub holds : Holds log q fs
+  pub unrecorded : List Event
+  pub happened : es ≡ (bs ++ fs) ++ unrecorded
 
-  comes-back : (k : ℕ) → k ≤ q → {l : Loaded} {r : Replayed} → Loads (take n image) l → Replays (l .state) (take k end) r → Back es (wholeIn k fs) k l r
-  comes-back k h {l} {r} L R =
-      let b = saved-loads is-saved L in
-      let again : Shows (l .state) (view s) = subst (λ (x : State). Shows x (view s)) (sym (b .1)) (record { consists = at-save .consists; seen = refl }) in
-      let a = replayed (at-save .consists) record₁ again k h R in
-      let m : after (wholeIn k fs) (view s) ≡ after (es ++ wholeIn k fs) fresh = ap (after (wholeIn k fs)) (at-save .seen) ∙ sym (after-append es (wholeIn k fs) fresh) in
+module _ {es bs fs : List Event} {image log : List ℕ} {q : ℕ} (G : Good es bs fs image log q) where
+  comes-back : (k : ℕ) → k ≤ q → {l : Loaded} {r : Replayed} → Loads image l → Replays (l .state) (take k log) r → Back bs (wholeIn k fs) k l r
+  comes-back k h L R =
+      let C : Consistent (after bs fresh) = always bs fresh fresh-consistent (G .fits) in
+      let a = holds-replayed (G .holds) (loads-back (after bs fresh) C (G .is-image) L) k h R in
+      let m : after (wholeIn k fs) (after bs fresh) ≡ after (bs ++ wholeIn k fs) fresh = sym (after-append bs (wholeIn k fs) fresh) in
       record {
-        loaded = b .0;
+        loaded = accepts L .1 (after bs fresh, C, G .is-image);
         state = record { consists = a .state .consists; seen = a .state .seen ∙ m };
         choice = a .choice ∙ ap choice m;
         records = a .records;
@@ -68,30 +84,93 @@ module _ {s t : State} (es : List Event) {fs : List Event} {before image log end
         code = a .code;
       }
 
--- ---- what a terminal has lived through: the events that have happened, and the state then
-pub data Lived : List Event → State → Type 0 where
-  -- it is fresh
-  born : {s : State} → Shows s fresh → Lived [] s
-  -- events come
-  went : {s t : State} {es fs : List Event} → Lived es s → Stepped s fs t → Lived (es ++ fs) t
-  -- it is saved, events are recorded, and the power fails at any byte of the log; then it is back
-  back : {s t : State} {es fs : List Event} {before image log end : List ℕ} {c n q k : ℕ} {l : Loaded} {r : Replayed} → Lived es s → length (encode (after es fresh)) ≤ length before
-      → Saves s before c n image → Session s log 0 fs t end q → k ≤ q → Loads (take n image) l → Replays (l .state) (take k end) r → Lived (es ++ wholeIn k fs) (r .state)
+-- ---- so at any time it is the rules' state for what has happened
+pub record Alive (es : List Event) (s : State) : Type 0 where
+  pub state : Shows s (after es fresh)
+  pub fits : AllFit es
 
--- it is the rules' state for those events, any number of power failures among them
-pub lived : {es : List Event} {s : State} → Lived es s → Shows s (after es fresh)
-lived (born S) = S
-lived (went {es = es} {fs = fs} L k) =
-    let S = stepped (lived L) k in
-    record { consists = S .consists; seen = S .seen ∙ sym (after-append es fs fresh) }
-lived (back {es = es} L room save record₁ h l r) = comes-back es (lived L) room save record₁ _ h l r .state
+-- a state that shows what came after
+shows-after : {t : State} (es fs : List Event) → Shows t (after fs (after es fresh)) → Shows t (after (es ++ fs) fresh)
+shows-after es fs S = record { consists = S .consists; seen = S .seen ∙ sym (after-append es fs fresh) }
 
--- For every cut of the recorded bytes: exactly the rules' state after e₁.. and those later events whose records are whole in the cut (what `wholeIn` leaves of
--- them is said by `whole-front`: as many from the front as fit), with that many records and their bytes counted, and 0 between records or 12 inside one.
-module _ {s t : State} {es fs : List Event} {before image log end : List ℕ} {c n q : ℕ} (life : Lived es s)
-    (room : length (encode (after es fresh)) ≤ length before) (save : Saves s before c n image) (record₁ : Session s log 0 fs t end q) where
-  pub history : (k : ℕ) → k ≤ q → {l : Loaded} {r : Replayed} → Loads (take n image) l → Replays (l .state) (take k end) r → Back es (wholeIn k fs) k l r
-  history = comes-back es (lived life) room save record₁
+abbrev Keeps : List Event → Store → Type 0
+Keeps es empty = Unit {0}
+Keeps es (kept bs fs image log q) = Good es bs fs image log q
+
+keeps-on : (es gs : List Event) (k : Store) → Keeps es k → Keeps (es ++ gs) k
+keeps-on es gs empty G = tt {0}
+keeps-on es gs (kept bs fs image log q) G = record {
+  is-image = G .is-image;
+  fits = G .fits;
+  holds = G .holds;
+  unrecorded = G .unrecorded ++ gs;
+  happened = ap (λ (l : List Event). l ++ gs) (G .happened) ∙ append-assoc (bs ++ fs) (G .unrecorded) gs;
+}
+
+lives : {es : List Event} {s : State} {k : Store} → Lived es s k → Alive es s × Keeps es k
+lives (born S) = (record { state = S; fits = tt {0} }, tt {0})
+lives (went {es = es} {fs = fs} {k = k} L c) =
+    let a = lives L in
+    (record { state = shows-after es fs (chain-shows (a .0 .state) c); fits = fit-append es fs (a .0 .fits) (chain-fits c) }, keeps-on es fs k (a .1))
+lives (saved {es = es} {log = log} L S) =
+    let a = lives L in (
+      a .0,
+      record {
+        is-image = ap encode (sym (a .0 .state .seen)) ∙ front-image S .1;
+        fits = a .0 .fits;
+        holds = holds-none log;
+        unrecorded = [];
+        happened = sym (append-nil (es ++ []) ∙ append-nil es);
+      },
+    )
+lives (recorded {t = t} {es = es} {bs = bs} {fs = fs} {gs = gs} L e z) =
+    let a = lives L in
+    let A = a .0 in
+    let G = a .1 in
+    let l = session-leaves (A .state .consists) (G .holds .within) (G .holds .short) z in
+    let S : Shows t (after gs (after es fresh)) = record { consists = l .state .consists; seen = l .state .seen ∙ ap (after gs) (A .state .seen) } in (
+      record { state = shows-after es gs S; fits = fit-append es gs (A .fits) (l .fits) },
+      record {
+        is-image = G .is-image;
+        fits = G .fits;
+        holds = holds-on (G .holds) (A .state .consists) z;
+        unrecorded = [];
+        happened = ap (λ (l : List Event). l ++ gs) e ∙ append-assoc bs fs gs ∙ sym (append-nil (bs ++ (fs ++ gs)));
+      },
+    )
+lives (back {bs = bs} {fs = fs} {k = k} L h l r e b) =
+    let G = lives L .1 in
+    let B = comes-back G k h l r in (
+      record { state = B .state; fits = fit-append bs (wholeIn k fs) (G .fits) (fit-whole k fs (G .holds .fits)) },
+      record {
+        is-image = G .is-image;
+        fits = G .fits;
+        holds = holds-cut (G .holds) k h (B .bytes) e b;
+        unrecorded = [];
+        happened = sym (append-nil (bs ++ wholeIn k fs));
+      },
+    )
+
+-- saves, recordings and power failures among them, in any number and order; and the words of these events have 32 bits
+pub lived : {es : List Event} {s : State} {k : Store} → Lived es s k → Alive es s
+lived L = lives L .0
+
+-- ---- demand 3
+module _ {es bs fs : List Event} {s : State} {image log : List ℕ} {q : ℕ} (life : Lived es s (kept bs fs image log q)) where
+  -- For every cut of the recorded bytes: exactly the rules' state after the events before the save and those later ones whose records are whole in the cut (what
+  -- `wholeIn` leaves of them is said by `whole-front`: as many from the front as fit), with that many records and their bytes counted, and 0 between records or
+  -- 12 inside one.
+  pub history : (k : ℕ) → k ≤ q → {l : Loaded} {r : Replayed} → Loads image l → Replays (l .state) (take k log) r → Back bs (wholeIn k fs) k l r
+  history = comes-back (lives life .1)
+
+  -- And that is the front of what has happened: nothing is made up, and what is missing is an end of it.
+  pub front-back : (k : ℕ) → (lost : List Event) × (es ≡ (bs ++ wholeIn k fs) ++ lost)
+  front-back k =
+      let G = lives life .1 in
+      let f = whole-front k fs in
+      let w : List Event = wholeIn k fs in
+      let z : bs ++ fs ≡ (bs ++ w) ++ f .others = ap (λ (l : List Event). bs ++ l) (f .same) ∙ sym (append-assoc bs w (f .others)) in
+      (f .others ++ G .unrecorded, G .happened ∙ ap (λ (l : List Event). l ++ G .unrecorded) z ∙ append-assoc (bs ++ w) (f .others) (G .unrecorded))
 
 -- ---- half a record
 -- Behind whole records, half a record never acts: state, choice and counts are those of the log without it, and the code is 12 instead of 0.

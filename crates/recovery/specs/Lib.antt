@@ -1,2 +1,4 @@
+pub mod Chain
+pub mod Turns
 pub mod History
 pub mod Counted
