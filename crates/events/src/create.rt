@@ -24,7 +24,7 @@ fn next_number(b: &Blocks, last: Number) -> Number
     let mut n = last;
     let mut left = NUMBERS;
     while left > 0 {
-        n = Number(counter::successor(n.0));
+        n = counter::step(n);
         let p = find(b, n);
         if p.0 == lines::NONE {
             return n;

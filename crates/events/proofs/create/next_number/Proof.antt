@@ -16,14 +16,14 @@ abbrev μ-loop : tie.MeasureT-loop
 loop-holds : tie.Need-loop-holds Inv-loop μ-loop
 loop-holds c = refl
 
-successor-requires : tie.Need-successor-requires Inv-loop μ-loop
-successor-requires c κs = search needs
+step-requires : tie.Need-step-requires Inv-loop μ-loop
+step-requires c κs = search needs
 
 find-requires : tie.Need-find-requires Inv-loop μ-loop
 find-requires c κs = search needs
 
 returns : tie.Need-returns Inv-loop μ-loop
-returns c = sym (c .before .before .before .before .before .loop .inv ∙ free-here _ _ _ (c .before .before .before .successor .ensures) (c .before .before .find .ensures) (c .before .before .before .before .loop-test .taken) (c .if1 .taken))
+returns c = sym (c .before .before .before .before .before .loop .inv ∙ free-here _ _ _ (c .before .before .before .step .ensures) (c .before .before .find .ensures) (c .before .before .before .before .loop-test .taken) (c .if1 .taken))
 
 sub-left : tie.Need-sub-left Inv-loop μ-loop
 sub-left c = search needs
@@ -32,7 +32,7 @@ loop-less : tie.Need-loop-less Inv-loop μ-loop
 loop-less c = search needs
 
 loop-again : tie.Need-loop-again Inv-loop μ-loop
-loop-again c = c .before .before .before .before .before .loop .inv ∙ free-past _ _ _ (c .before .before .before .successor .ensures) (c .before .before .find .ensures) (c .before .before .before .before .loop-test .taken) (c .if1 .left)
+loop-again c = c .before .before .before .before .before .loop .inv ∙ free-past _ _ _ (c .before .before .before .step .ensures) (c .before .before .find .ensures) (c .before .before .before .before .loop-test .taken) (c .if1 .left)
 
 returns-2 : tie.Need-returns-2 Inv-loop μ-loop
 returns-2 c = sym (c .before .loop .inv ∙ free-none _ _ _ (omega arith))
@@ -44,7 +44,7 @@ next-number-spec =
     Inv-loop
     μ-loop
     loop-holds
-    successor-requires
+    step-requires
     find-requires
     returns
     sub-left
