@@ -11,25 +11,25 @@ pub struct Counter {
 }
 
 // The counter steps to its successor, and from 253 or above to 0: 254 is no number, and 255 is nobody.
-pub fn successor(n: u8) -> u8
-    ensures { λ r. ⌜ r ≡ successorOf n ⌝ }
+pub fn successor(n: Number) -> Number
+    ensures { λ r. ⌜ r .0 ≡ successorOf (n .0) ⌝ }
 {
-    if n < rules::LAST_NUMBER {
-        return n + 1;
+    if n.0 < rules::LAST_NUMBER {
+        return Number(n.0 + 1);
     }
-    0
+    Number(0)
 }
 
 // Steps the counter lent, and gives the number stepped to. The one before is in use, or was.
 pub fn next(c: &mut Counter) -> Number
     ensures { λ r. ⌜ Steps (now (c .entry)) (now (c .exit)) r ⌝ }
 {
-    let n = successor(c.last.0);
-    c.last = Number(n);
-    Number(n)
+    let n = successor(c.last);
+    c.last = n;
+    n
 }
 
-// The number after the last one given, for callers that hold that themselves: a counter is made of it, lent to `next`, and read back.
+// The number after the last one given, for callers that hold that themselves, as create does: a counter is made of it, lent to `next`, and read back.
 pub fn step(last: Number) -> Number
     ensures { λ r. ⌜ r .0 ≡ successorOf (last .0) ⌝ }
 {

@@ -4,14 +4,14 @@ use borrow.Author.Tests.{lt-ltb, le-ltb}
 use Rattle.counter.proofs.successor.Statement.{statement}
 use Rattle.counter.proofs.successor.Tie as tie
 
-add-result : tie.Need-add-result
-add-result c = search needs
+add-t3 : tie.Need-add-t3
+add-t3 c = search needs
 
 returns : tie.Need-returns
-returns c = simp (lt-ltb _ _ (c .if1 .taken))
+returns c = simp (lt-ltb _ _ (c .before .if1 .taken))
 
 returns-2 : tie.Need-returns-2
 returns-2 c = simp (le-ltb _ _ (c .if1 .left))
 
 pub successor-spec : {M : Type 1} → statement M
-successor-spec = tie.close (tie.spec add-result returns returns-2)
+successor-spec = tie.close (tie.spec add-t3 returns returns-2)
