@@ -19,6 +19,7 @@ use rules::AWAITING;
 use rules::EMPTY;
 use rules::LAST_NUMBER;
 use rules::NOBODY;
+use rules::Number;
 use rules::Place;
 use rules::READY;
 use rules::RECEIVING;
@@ -46,10 +47,10 @@ fn wide(x: u8) -> usize
 // ---- a thread alone
 
 // Partner and word by standing: the table of document 01.
-fn as_table(standing: u8, partner: u8, word: u32) -> bool
-    ensures { λ r. ⌜ r ≡ asTable standing partner word ⌝ }
+fn as_table(standing: u8, partner: Number, word: u32) -> bool
+    ensures { λ r. ⌜ r ≡ asTable standing (partner .0) word ⌝ }
 {
-    let resting = (partner == NOBODY) & (word == 0);
+    let resting = (partner.0 == NOBODY) & (word == 0);
     if standing == RUNNING {
         return resting;
     }
@@ -57,13 +58,13 @@ fn as_table(standing: u8, partner: u8, word: u32) -> bool
         return resting;
     }
     if standing == SENDING {
-        return partner <= LAST_NUMBER;
+        return partner.0 <= LAST_NUMBER;
     }
     if standing == AWAITING {
-        return partner <= LAST_NUMBER;
+        return partner.0 <= LAST_NUMBER;
     }
     if standing == RECEIVING {
-        return ((partner <= LAST_NUMBER) | (partner == NOBODY)) & (word == 0);
+        return ((partner.0 <= LAST_NUMBER) | (partner.0 == NOBODY)) & (word == 0);
     }
     if standing == WAITING {
         return resting;
@@ -72,11 +73,11 @@ fn as_table(standing: u8, partner: u8, word: u32) -> bool
 }
 
 // Code 0 or 16 and who a number, or 0, 255, 0.
-fn is_answer(code: u8, who: u8, word: u32) -> bool
-    ensures { λ r. ⌜ r ≡ isAnswer code who word ⌝ }
+fn is_answer(code: u8, who: Number, word: u32) -> bool
+    ensures { λ r. ⌜ r ≡ isAnswer code (who .0) word ⌝ }
 {
-    ((code == 0) | (code == 16)) & (who <= LAST_NUMBER)
-        | (code == 0) & ((who == NOBODY) & (word == 0))
+    ((code == 0) | (code == 16)) & (who.0 <= LAST_NUMBER)
+        | (code == 0) & ((who.0 == NOBODY) & (word == 0))
 }
 
 // The clean value of an empty place.
@@ -95,8 +96,8 @@ fn fits(t: Thread) -> bool
         return is_clean(t);
     }
     let a = t.answer;
-    let answer = is_answer(a.code, a.who.0, a.word);
-    let table = as_table(t.standing, t.partner.0, t.word);
+    let answer = is_answer(a.code, a.who, a.word);
+    let table = as_table(t.standing, t.partner, t.word);
     (t.number.0 <= LAST_NUMBER) & (table & ((t.partner.0 != t.number.0) & answer))
 }
 
@@ -124,48 +125,55 @@ fn home(who: &[u8; 256], t: Thread) -> u8
 }
 
 // The owner of the inbox in which t would stand, at r, does not wait to hear it.
-fn unheard(b: &Blocks, r: u8, t: Thread) -> bool
-    ensures { λ r′. ⌜ ((w : List ℕ) → r′ ≡ quietTo (thread (modelOf 0 0 (now (b .entry)) w []) r) (asThread t)) ⌝ }
+fn unheard(b: &Blocks, r: Place, t: Thread) -> bool
+    ensures { λ r′. ⌜ ((w : List ℕ) → r′ ≡ quietTo (thread (modelOf 0 0 (now (b .entry)) w []) (r .0)) (asThread t)) ⌝ }
 {
     if t.standing != SENDING {
         return true;
     }
-    if r >= LIMIT {
+    if r.0 >= LIMIT {
         return true;
     }
     let n = t.number;
-    !table::listens(b, Place(r), n)
+    !table::listens(b, r, n)
 }
 
 // Whoever stands as running is the one that runs.
-fn runs_alone(running: u8, p: u8, t: Thread) -> bool
-    ensures { λ r. ⌜ r ≡ runsAlone running p (asThread t) ⌝ }
+fn runs_alone(running: Place, p: Place, t: Thread) -> bool
+    ensures { λ r. ⌜ r ≡ runsAlone (running .0) (p .0) (asThread t) ⌝ }
 {
     if t.standing == RUNNING {
-        return running == p;
+        return running.0 == p.0;
     }
     true
 }
 
 // The place p, with all that it has to do with others.
-fn place(b: &Blocks, w: &Words, at: &[u8; PLACES], who: &[u8; 256], running: u8, p: u8) -> bool
-    requires { ⌜ p < places ⌝ }
-    ensures { λ r. ⌜ r ≡ placeTest (modelOf 0 running (now (b .entry)) (now (w .entry)) []) (now (at .entry)) (now (who .entry)) p ⌝ }
+fn place(
+    b: &Blocks,
+    w: &Words,
+    at: &[u8; PLACES],
+    who: &[u8; 256],
+    running: Place,
+    p: Place,
+) -> bool
+    requires { ⌜ p .0 < places ⌝ }
+    ensures { λ r. ⌜ r ≡ placeTest (modelOf 0 (running .0) (now (b .entry)) (now (w .entry)) []) (now (at .entry)) (now (who .entry)) (p .0) ⌝ }
 {
-    let t = table::read(b, w, Place(p));
-    let r = who[wide(t.partner.0)];
-    let seated = at[p as usize] == home(who, t);
+    let t = table::read(b, w, p);
+    let r = Place(who[wide(t.partner.0)]);
+    let seated = at[p.0 as usize] == home(who, t);
     fits(t) & (runs_alone(running, p, t) & (seated & unheard(b, r, t)))
 }
 
 // ---- the index of numbers
 
 // The thread at p, if one stands there, enters the index. False where its number is taken.
-fn enter(b: &Blocks, who: &mut [u8; 256], p: u8) -> bool
-    requires { ⌜ (p < places) × Entered (now b) (now who) p ⌝ }
-    ensures { λ r. ⌜ Tells r (Entered (now (b .entry)) (now (who .exit)) (p + 1)) (Twice (now (b .entry))) ⌝ }
+fn enter(b: &Blocks, who: &mut [u8; 256], p: Place) -> bool
+    requires { ⌜ (p .0 < places) × Entered (now b) (now who) (p .0) ⌝ }
+    ensures { λ r. ⌜ Tells r (Entered (now (b .entry)) (now (who .exit)) (p .0 + 1)) (Twice (now (b .entry))) ⌝ }
 {
-    let at = p as usize;
+    let at = p.0 as usize;
     if b[table::STANDING + at] == EMPTY {
         return true;
     }
@@ -173,7 +181,7 @@ fn enter(b: &Blocks, who: &mut [u8; 256], p: u8) -> bool
     if who[n] != NONE {
         return false;
     }
-    who[n] = p;
+    who[n] = p.0;
     true
 }
 
@@ -184,7 +192,7 @@ fn index(b: &Blocks, who: &mut [u8; 256]) -> bool
 {
     let mut p: u8 = 0;
     while p < LIMIT {
-        if !enter(b, who, p) {
+        if !enter(b, who, Place(p)) {
             return false;
         }
         p += 1;
@@ -195,12 +203,12 @@ fn index(b: &Blocks, who: &mut [u8; 256]) -> bool
 // ---- all places
 
 // Every place passes.
-fn every(b: &Blocks, w: &Words, at: &[u8; PLACES], who: &[u8; 256], running: u8) -> bool
-    ensures { λ r. ⌜ Every r (placeTest (modelOf 0 running (now (b .entry)) (now (w .entry)) []) (now (at .entry)) (now (who .entry))) ⌝ }
+fn every(b: &Blocks, w: &Words, at: &[u8; PLACES], who: &[u8; 256], running: Place) -> bool
+    ensures { λ r. ⌜ Every r (placeTest (modelOf 0 (running .0) (now (b .entry)) (now (w .entry)) []) (now (at .entry)) (now (who .entry))) ⌝ }
 {
     let mut p: u8 = 0;
     while p < LIMIT {
-        if !place(b, w, at, who, running, p) {
+        if !place(b, w, at, who, running, Place(p)) {
             return false;
         }
         p += 1;
@@ -260,8 +268,8 @@ fn words(s: &[u32]) -> usize
 }
 
 // Every place, each with all that it has to do with others.
-fn members(b: &Blocks, w: &Words, at: &[u8; PLACES], running: u8) -> bool
-    ensures { λ r. ⌜ Tells r (Members running (now (b .entry)) (now (w .entry)) (now (at .entry))) (Strangers running (now (b .entry)) (now (w .entry)) (now (at .entry))) ⌝ }
+fn members(b: &Blocks, w: &Words, at: &[u8; PLACES], running: Place) -> bool
+    ensures { λ r. ⌜ Tells r (Members (running .0) (now (b .entry)) (now (w .entry)) (now (at .entry))) (Strangers (running .0) (now (b .entry)) (now (w .entry)) (now (at .entry))) ⌝ }
 {
     let mut who = [NONE; 256];
     if !index(b, &mut who) {
@@ -279,7 +287,7 @@ pub fn consistent(b: &Blocks, w: &Words, l: &Links, d: Desk) -> bool
         return false;
     }
     let at = seats.at;
-    if !members(b, w, &at, d.running.0) {
+    if !members(b, w, &at, d.running) {
         return false;
     }
     if !seated(b, l, d) {

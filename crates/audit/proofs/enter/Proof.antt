@@ -9,6 +9,9 @@ use Rattle.audit.specs.Loops.{enter-empty, enter-taken, enter-new}
 use Rattle.audit.proofs.enter.Statement.{statement}
 use Rattle.audit.proofs.enter.Tie as tie
 
+cast-at : tie.Need-cast-at
+cast-at c = search needs
+
 add-if1 : tie.Need-add-if1
 add-if1 c = search needs
 
@@ -16,7 +19,7 @@ element-copy-out-if1 : tie.Need-element-copy-out-if1
 element-copy-out-if1 c = search needs
 
 returns : tie.Need-returns
-returns c = let f = c .before .before in tells-yes (enter-empty (f .pre .1) (f .pre .0) (ap not (eq-eqb _ _ (c .if1 .taken))))
+returns c = let f = c .before .before .before in tells-yes (enter-empty (f .pre .1) (f .pre .0) (ap not (eq-eqb _ _ (c .if1 .taken))))
 
 add-wide : tie.Need-add-wide
 add-wide c = search needs
@@ -32,7 +35,7 @@ element-copy-out-if2 c = search needs
 
 returns-2 : tie.Need-returns-2
 returns-2 c =
-    let f = c .before .before .before .before .before .before in
+    let f = c .before .before .before .before .before .before .before in
     let e = c .before .before .wide .ensures in
     tells-no (enter-taken (f .pre .1) (f .pre .0) (ap not (ne-eqb _ _ (c .before .before .before .before .if1 .left))) (omega arith) (rw (e .0) at (c .if2 .taken)))
 
@@ -41,7 +44,7 @@ element-write-who c = search needs
 
 returns-3 : tie.Need-returns-3
 returns-3 c =
-    let f = c .before .before .before .before .before .before in
+    let f = c .before .before .before .before .before .before .before in
     let e = c .before .before .wide .ensures in
     tells-yes (rw (e .0) (enter-new (f .pre .1) (f .pre .0) (ap not (ne-eqb _ _ (c .before .before .before .before .if1 .left))) (omega arith) (rw (e .0) at (c .if2 .left))))
 
@@ -49,6 +52,7 @@ pub enter-spec : {M : Type 1} → statement M
 enter-spec =
     tie.close
     (tie.spec
+    cast-at
     add-if1
     element-copy-out-if1
     returns

@@ -16,11 +16,14 @@ read-requires c κs = search needs
 wide-requires : tie.Need-wide-requires
 wide-requires c κs = search needs
 
-element-copy-out-r : tie.Need-element-copy-out-r
-element-copy-out-r c = search needs
-
 element-copy-out-seated : tie.Need-element-copy-out-seated
 element-copy-out-seated c = search needs
+
+cast-seated : tie.Need-cast-seated
+cast-seated c = search needs
+
+element-copy-out-seated-2 : tie.Need-element-copy-out-seated-2
+element-copy-out-seated-2 c = search needs
 
 home-requires : tie.Need-home-requires
 home-requires c κs = search needs
@@ -36,11 +39,11 @@ unheard-requires c κs = search needs
 
 returns : tie.Need-returns
 returns c =
-    let f = c .before .before .before .before .before .before .before .before in
-    let t = c .before .before .before .before .before .before .before .read in
-    seat-test (modelOf 0 (f .args .running) (f .args .b .now) (f .args .w .now) []) (f .args .at .now) (f .args .who .now) (f .args .p) _ _ (asThread (t .result)) _ _ _
-    (t .ensures ∙ sym (thread-at 0 (f .args .running) (f .args .b .now) (f .args .w .now) [] (f .args .p) (f .pre)))
-    (ap (λ (n : ℕ). getD (f .args .who .now) n 0) (c .before .before .before .before .before .before .wide .ensures .0))
+    let f = c .before .before .before .before .before .before .before .before .before in
+    let t = c .before .before .before .before .before .before .before .before .read in
+    seat-test (modelOf 0 (f .args .running .0) (f .args .b .now) (f .args .w .now) []) (f .args .at .now) (f .args .who .now) (f .args .p .0) _ _ (asThread (t .result)) _ _ _
+    (t .ensures ∙ sym (thread-at 0 (f .args .running .0) (f .args .b .now) (f .args .w .now) [] (f .args .p .0) (f .pre)))
+    (ap (λ (n : ℕ). getD (f .args .who .now) n 0) (c .before .before .before .before .before .before .before .wide .ensures .0))
     (c .before .before .fits2 .ensures) (c .before .runs-alone .ensures) (c .before .before .before .home .ensures) (c .unheard .ensures (f .args .w .now))
 
 pub place-spec : {M : Type 1} → statement M
@@ -49,8 +52,9 @@ place-spec =
     (tie.spec
     read-requires
     wide-requires
-    element-copy-out-r
     element-copy-out-seated
+    cast-seated
+    element-copy-out-seated-2
     home-requires
     fits-requires
     runs-alone-requires

@@ -20,9 +20,9 @@ returns c = λ w. rw (ne-eqb (c .before .before .args .t .standing) 3 (c .if1 .t
 returns-2 : tie.Need-returns-2
 returns-2 c =
     λ w.
-    let f = c .before .before .before in
+    let f = c .before .before .before .before in
     let v = length-tab places (threadOf (f .args .b .now) w) in
-    rw (eq-eqb (f .args .t .standing) 3 (c .before .if1 .left), List·getD-eq-default (tab places (threadOf (f .args .b .now) w)) vacant {n = f .args .r} (omega arith))
+    rw (eq-eqb (f .args .t .standing) 3 (c .before .before .if1 .left), List·getD-eq-default (tab places (threadOf (f .args .b .now) w)) vacant {n = f .args .r .0} (omega arith))
 
 listens-requires : tie.Need-listens-requires
 listens-requires c κs = search needs
@@ -30,8 +30,8 @@ listens-requires c κs = search needs
 returns-3 : tie.Need-returns-3
 returns-3 c =
     λ w.
-    let f = c .before .before .before .before .before in
-    rw (eq-eqb (f .args .t .standing) 3 (c .before .before .before .if1 .left), thread-at 0 0 (f .args .b .now) w [] (f .args .r) (omega arith))
+    let f = c .before .before .before .before .before .before in
+    rw (eq-eqb (f .args .t .standing) 3 (c .before .before .before .before .if1 .left), thread-at 0 0 (f .args .b .now) w [] (f .args .r .0) (omega arith))
     (ap not (c .listens .ensures))
 
 pub unheard-spec : {M : Type 1} → statement M
