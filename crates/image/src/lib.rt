@@ -49,7 +49,7 @@ pub fn load(image: &[u8]) -> Loaded
 pub fn locate(image: &[u8], n: Number) -> Part
     ensures { λ r. ⌜ Locates (now (image .entry)) (n .0) (r .code) (r .offset) (r .length) ⌝ }
 {
-    look::part_of(image, n.0)
+    look::part_of(image, n)
 }
 
 // The body of the thread with the number n, with its inbox: a part of the caller's own image. An empty part where load refuses the image, or nobody in it
@@ -57,7 +57,7 @@ pub fn locate(image: &[u8], n: Number) -> Part
 pub fn look_up(image: &[u8], n: Number) -> &[u8]
     ensures { λ r. ⌜ Sees (now (image .entry)) (n .0) (now r) × Lies (now (image .entry)) (n .0) (ptr (image .entry)) (ptr r) (now r) ⌝ }
 {
-    let part = look::part_of(image, n.0);
+    let part = look::part_of(image, n);
     let from = part.offset;
     let to = from + part.length;
     &image[from..to]

@@ -6,19 +6,20 @@ ghost use Rattle.image.specs.Entry.{bodyAt};
 ghost use Rattle.image.specs.Locates.{Locates, Sought};
 use super::Part;
 use super::bytes;
+use rules::Number;
 
 // Document 01's code for a number that is not live.
 const NOT_LIVE: u8 = 4;
 
 // The entry of the number n, or the live count where it has none.
-fn find(image: &[u8], n: u8) -> usize
-    ensures { λ r. ⌜ Sought (now (image .entry)) n r ⌝ }
+fn find(image: &[u8], n: Number) -> usize
+    ensures { λ r. ⌜ Sought (now (image .entry)) (n .0) r ⌝ }
 {
     let live = bytes::wide(bytes::at(image, bytes::LIVE));
     let mut i = 0;
     while i < live {
         let entry = bytes::HEAD + bytes::ENTRY * i;
-        if bytes::at(image, entry + bytes::NUMBER) == n {
+        if bytes::at(image, entry + bytes::NUMBER) == n.0 {
             return i;
         }
         i += 1;
@@ -42,8 +43,8 @@ fn body(image: &[u8], i: usize) -> Part
 }
 
 // Where the body of the number n is. Load's code comes first: of bytes that are no image nothing is told.
-pub fn part_of(image: &[u8], n: u8) -> Part
-    ensures { λ r. ⌜ Locates (now (image .entry)) n (r .code) (r .offset) (r .length) ⌝ }
+pub fn part_of(image: &[u8], n: Number) -> Part
+    ensures { λ r. ⌜ Locates (now (image .entry)) (n .0) (r .code) (r .offset) (r .length) ⌝ }
 {
     let loaded = super::load(image);
     let code = loaded.code;

@@ -10,7 +10,7 @@ use Rattle.image.proofs.look.find.Statement.{statement}
 use Rattle.image.proofs.look.find.Tie as tie
 
 abbrev Inv-loop : tie.InvT-loop
-Inv-loop image n live i₀ i = (i ≤ live) × ((k : ℕ) → k < i → getD image (entryAt k + 1) 0 ≡ n → ⊥)
+Inv-loop image n live i₀ i = (i ≤ live) × ((k : ℕ) → k < i → getD image (entryAt k + 1) 0 ≡ n .0 → ⊥)
 
 abbrev μ-loop : tie.MeasureT-loop
 μ-loop image n live i₀ i = live - i
@@ -38,8 +38,8 @@ at-requires-2 c κs = search needs
 
 returns : tie.Need-returns Inv-loop μ-loop
 returns c =
-    let e = c .before .before .before .before .wide .ensures .0 ∙ c .before .before .before .before .before .at .ensures in
-    record { upto = omega arith; before = c .before .before .before .loop .inv .1; here = λ h. sym (c .before .at2 .ensures) ∙ c .if1 .taken }
+    let e = c .before .before .before .before .before .wide .ensures .0 ∙ c .before .before .before .before .before .before .at .ensures in
+    record { upto = omega arith; before = c .before .before .before .before .loop .inv .1; here = λ h. sym (c .before .before .at2 .ensures) ∙ c .if1 .taken }
 
 add-i : tie.Need-add-i Inv-loop μ-loop
 add-i c = search needs
@@ -48,7 +48,7 @@ loop-less : tie.Need-loop-less Inv-loop μ-loop
 loop-less c = search needs
 
 loop-again : tie.Need-loop-again Inv-loop μ-loop
-loop-again c = (search needs, below-more _ _ (c .before .before .before .loop .inv .1) (λ e. c .if1 .left (c .before .at2 .ensures ∙ e)))
+loop-again c = (search needs, below-more _ _ (c .before .before .before .before .loop .inv .1) (λ e. c .if1 .left (c .before .before .at2 .ensures ∙ e)))
 
 returns-2 : tie.Need-returns-2 Inv-loop μ-loop
 returns-2 c =
