@@ -5,6 +5,10 @@
    Records written one behind another are a LOG. An image and the log since give the present image back after a power cut.
    examples/board.c shows the whole of it.
 
+   A log belongs to its image, and to the build that wrote it: a build whose rules are others may make something else of the same
+   records, and no code tells. So keep RUMQATISS_RULES beside the log, and replay a log only where the number is the same. An image
+   with an empty log needs no number: whether a build takes it can be seen from its bytes.
+
    WHAT YOU OWE
    - A buffer is a pointer and a length. The pointer points to at least that many bytes. Any bytes may stand in them: an
      image from a broken medium is refused, never trusted.
@@ -75,6 +79,7 @@ extern "C" {
 #define RUMQATISS_LONGEST_RECORD 6   /* bytes */
 #define RUMQATISS_RECORD_LENGTHS { 1, 6, 2, 6, 2, 1, 1, 1 }  /* bytes of a record of kind 1, 2, .. 8 */
 #define RUMQATISS_NOBODY 255         /* no number; in a receive, anyone */
+#define RUMQATISS_RULES 1            /* the number of the rules that this build follows, raised by every later change of the rules */
 
 /* Thread numbers run from 0 to 253. */
 
@@ -116,6 +121,7 @@ enum rumqatiss_choice {
 
 /* One record happens to an image.
    Returns the code. The tests in their order: the image's (8 for under 8 bytes, 9, 8 for its length, 10), 13, 12, 1 to 6, 7.
+   With 0 to 6 it was a record, and belongs in the log. With 12 and 13 it was none. 7 to 10 are about your own buffers: log nothing.
    choice, next  code 0: of the new image. Another code: of the image given, or halt where 8, 9 or 10 refused it.
    number        the new thread's number after a create with code 0; else 255.
    length        of the new image with code 0; else 0, and the image given is still the present one. */
