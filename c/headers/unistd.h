@@ -1,2 +1,3 @@
 /* See stdint.h. */
+int close(int);
 int fsync(int);
