@@ -92,13 +92,13 @@ static int edges_stand(const struct lent *l) {
 }
 
 /* Compares all that the call was lent with what it must be. The first disagreement is said in full, and ends the test. */
-static void settle(const char *call, uint8_t code, uint8_t want) {
+static void settle(const char *name, uint8_t code, uint8_t want) {
     int agree = code == want;
     for (int i = 0; i < uses; i++) {
         agree = agree && edges_stand(used[i]) && memcmp(used[i]->area + EDGE, used[i]->want, used[i]->len) == 0;
     }
     if (!agree) {
-        printf("%s, line %d: %s disagrees\n  code is: %d\n  code should be: %d\n", table, line, call, code, want);
+        printf("%s, line %d: %s disagrees\n  code is: %d\n  code should be: %d\n", table, line, name, code, want);
         for (int i = 0; i < uses; i++) {
             const struct lent *l = used[i];
             show("is", l->area + EDGE, l);
@@ -110,6 +110,55 @@ static void settle(const char *call, uint8_t code, uint8_t want) {
     uses = 0;
 }
 
+/* ---- the stack */
+
+/* Every call runs on this stack, which is painted before the first. What is no longer painted after the last was used. */
+static _Alignas(16) uint8_t stack[64 * 1024];
+
+static void paint(void) {
+    for (size_t i = 0; i < sizeof stack; i++) stack[i] = edge(i);
+}
+
+/* The most bytes of stack that a call has used, with those of the few lines that hand its arguments over. */
+static size_t stack_used(void) {
+    size_t i = 0;
+    while (i < sizeof stack && stack[i] == edge(i)) i++;
+    return sizeof stack - i;
+}
+
+/* The old stack's pointer waits in rbx, which a function gives back as it was. The address of the function and that of the new
+   stack must survive until they are used, so they may stand in none of the registers that are listed as changed. */
+static void on_painted_stack(void function(void)) {
+    __asm__ volatile("movq %%rsp, %%rbx\n\tmovq %0, %%rsp\n\tcallq *%1\n\tmovq %%rbx, %%rsp"
+                     :
+                     : "r"(stack + sizeof stack), "r"(function)
+                     : "rax", "rbx", "rcx", "rdx", "rsi", "rdi", "r8", "r9", "r10", "r11", "xmm0", "xmm1", "xmm2", "xmm3", "xmm4", "xmm5",
+                       "xmm6", "xmm7", "xmm8", "xmm9", "xmm10", "xmm11", "xmm12", "xmm13", "xmm14", "xmm15", "cc", "memory");
+}
+
+/* The coming call's arguments, as many as it has, and its code. */
+static struct {
+    const uint8_t *image, *record, *log;
+    size_t image_len, record_len, log_len, room;
+    uint8_t *out, *choice, *next, *number, who, code;
+    uint32_t *records, *bytes;
+    uint16_t *offset, *length;
+} call;
+
+static void call_board(void) {
+    call.code = rumqatiss_board(call.image, call.image_len, call.record, call.record_len, call.out, call.room,
+                                call.choice, call.next, call.number, call.length);
+}
+
+static void call_fresh(void) { call.code = rumqatiss_fresh(call.out, call.room, call.length); }
+
+static void call_replay(void) {
+    call.code = rumqatiss_replay(call.image, call.image_len, call.log, call.log_len, call.out, call.room,
+                                 call.choice, call.next, call.records, call.bytes, call.length);
+}
+
+static void call_look_up(void) { call.code = rumqatiss_look_up(call.image, call.image_len, call.who, call.offset, call.length); }
+
 /* ---- the calls, each with what it must come to */
 
 struct part { const uint8_t *at; size_t len; };
@@ -118,35 +167,60 @@ struct chosen { uint8_t kind, runs; };
 static const struct part none = { NULL, 0 };
 static const struct chosen halt = { RUMQATISS_HALT, RUMQATISS_NOBODY };
 
+static void lend_image(struct part im) {
+    call.image = lend_bytes(&image, im.at, im.len);
+    call.image_len = im.len;
+}
+
+static void lend_room(size_t room, uint8_t fill, struct part after) {
+    call.out = lend_out(room, fill, after.at, after.len);
+    call.room = room;
+    call.length = lend_number(&length, 2, (uint32_t)after.len);
+}
+
+static void lend_choice(struct chosen c) {
+    call.choice = lend_number(&choice, 1, c.kind);
+    call.next = lend_number(&next, 1, c.runs);
+}
+
 static void try_board(struct part im, struct part rec, size_t room, uint8_t fill, uint8_t code, struct chosen c, uint8_t given, struct part after) {
-    const uint8_t *i = lend_bytes(&image, im.at, im.len), *r = lend_bytes(&record, rec.at, rec.len);
-    uint8_t *o = lend_out(room, fill, after.at, after.len);
-    uint8_t *ch = lend_number(&choice, 1, c.kind), *ne = lend_number(&next, 1, c.runs), *nu = lend_number(&number, 1, given);
-    uint16_t *le = lend_number(&length, 2, (uint32_t)after.len);
-    settle("rumqatiss_board", rumqatiss_board(i, im.len, r, rec.len, o, room, ch, ne, nu, le), code);
+    lend_image(im);
+    call.record = lend_bytes(&record, rec.at, rec.len);
+    call.record_len = rec.len;
+    lend_room(room, fill, after);
+    lend_choice(c);
+    call.number = lend_number(&number, 1, given);
+    on_painted_stack(call_board);
+    settle("rumqatiss_board", call.code, code);
 }
 
 static void try_replay(struct part im, struct part log, size_t room, uint8_t code, struct chosen c, uint32_t count, uint32_t read, struct part after) {
-    const uint8_t *i = lend_bytes(&image, im.at, im.len), *g = lend_bytes(&events, log.at, log.len);
-    uint8_t *o = lend_out(room, MARK, after.at, after.len);
-    uint8_t *ch = lend_number(&choice, 1, c.kind), *ne = lend_number(&next, 1, c.runs);
-    uint32_t *re = lend_number(&records, 4, count), *by = lend_number(&bytes, 4, read);
-    uint16_t *le = lend_number(&length, 2, (uint32_t)after.len);
-    settle("rumqatiss_replay", rumqatiss_replay(i, im.len, g, log.len, o, room, ch, ne, re, by, le), code);
+    lend_image(im);
+    call.log = lend_bytes(&events, log.at, log.len);
+    call.log_len = log.len;
+    lend_room(room, MARK, after);
+    lend_choice(c);
+    call.records = lend_number(&records, 4, count);
+    call.bytes = lend_number(&bytes, 4, read);
+    on_painted_stack(call_replay);
+    settle("rumqatiss_replay", call.code, code);
 }
 
 static void try_look_up(struct part im, uint8_t who, uint8_t code, uint16_t start, uint16_t len) {
-    const uint8_t *i = lend_bytes(&image, im.at, im.len);
-    uint16_t *of = lend_number(&offset, 2, start), *le = lend_number(&length, 2, len);
-    char call[40];
-    snprintf(call, sizeof call, "rumqatiss_look_up of number %d", who);
-    settle(call, rumqatiss_look_up(i, im.len, who, of, le), code);
+    lend_image(im);
+    call.who = who;
+    call.offset = lend_number(&offset, 2, start);
+    call.length = lend_number(&length, 2, len);
+    char name[40];
+    snprintf(name, sizeof name, "rumqatiss_look_up of number %d", who);
+    on_painted_stack(call_look_up);
+    settle(name, call.code, code);
 }
 
 static void try_fresh(size_t room, uint8_t code, struct part after) {
-    uint8_t *o = lend_out(room, MARK, after.at, after.len);
-    uint16_t *le = lend_number(&length, 2, (uint32_t)after.len);
-    settle("rumqatiss_fresh", rumqatiss_fresh(o, room, le), code);
+    lend_room(room, MARK, after);
+    on_painted_stack(call_fresh);
+    settle("rumqatiss_fresh", call.code, code);
 }
 
 /* The choice of an image that load takes, as its bytes say it. */
@@ -296,6 +370,37 @@ static void try_lengths(void) {
     }
 }
 
+/* Records that the rules refuse after a log from fresh: a send, a receive or a reply that names the running thread, and a reply to
+   a thread in each of the standings in which it does not await the reply of the one that runs. */
+static void try_refusals(void) {
+    static struct { char log[40], record[16]; uint8_t runs, code; } rows[] = {
+        { "01", "020007000000", 0, RUMQATISS_NAMES_CALLER },
+        { "01", "0300", 0, RUMQATISS_NAMES_CALLER },
+        { "01", "040007000000", 0, RUMQATISS_NAMES_CALLER },
+        { "010107", "020107000000", 1, RUMQATISS_NAMES_CALLER },
+        { "010107", "0301", 1, RUMQATISS_NAMES_CALLER },
+        { "010107", "040107000000", 1, RUMQATISS_NAMES_CALLER },
+        { "0101", "040107000000", 0, RUMQATISS_NOT_AWAITING },                      /* it is ready */
+        { "0101020109000000", "040007000000", 1, RUMQATISS_NOT_AWAITING },          /* it sends, and was not received */
+        { "01010102010900000003ff07", "040007000000", 2, RUMQATISS_NOT_AWAITING },  /* it awaits the reply of another */
+        { "010103ff", "040007000000", 1, RUMQATISS_NOT_AWAITING },                  /* it receives from anyone */
+        { "01010301", "040007000000", 1, RUMQATISS_NOT_AWAITING },                  /* it receives from the one that runs */
+        { "010106", "040007000000", 1, RUMQATISS_NOT_AWAITING }                     /* it waits for the clock */
+    };
+    for (size_t i = 0; i < sizeof rows / sizeof rows[0]; i++) {
+        uint8_t b[RUMQATISS_LONGEST_IMAGE], kind, runs;
+        uint32_t count, read;
+        uint16_t len;
+        struct part log = bytes_in(rows[i].log), rec = bytes_in(rows[i].record);
+        struct chosen c = { RUMQATISS_RUN, rows[i].runs };
+        line = (int)i + 1;
+        uint8_t code = rumqatiss_replay(fresh.at, fresh.len, log.at, log.len, b, sizeof b, &kind, &runs, &count, &read, &len);
+        if (code != RUMQATISS_DONE) broken("a log was expected");
+        try_board((struct part){ b, len }, rec, ROOM, MARK, rows[i].code, c, RUMQATISS_NOBODY, none);
+        try_board((struct part){ b, len }, rec, 0, MARK, rows[i].code, c, RUMQATISS_NOBODY, none);
+    }
+}
+
 /* The longest image: 32 threads, all of them waiting for the clock. */
 static void try_longest(void) {
     static const uint8_t create = RUMQATISS_CREATE;
@@ -317,6 +422,12 @@ static void try_longest(void) {
     try_replay(fresh, all, sizeof full - 1, RUMQATISS_SHORT_BUFFER, halt, 0, 0, none);
     try_board(after, rec, ROOM, MARK, RUMQATISS_FULL, wait, RUMQATISS_NOBODY, none);
     try_look_up(after, 31, RUMQATISS_DONE, RUMQATISS_LONGEST_IMAGE - 13, 13);
+    /* The longest log on it: a tick, and all wait again; at last slice ends, while nobody runs. */
+    static uint8_t longest[RUMQATISS_LONGEST_LOG];
+    for (size_t i = 0; i < sizeof longest; i++) longest[i] = i % 33 == 0 ? RUMQATISS_TICK : RUMQATISS_WAIT_CLOCK;
+    memset(longest + sizeof longest / 33 * 33, RUMQATISS_SLICE_END, sizeof longest % 33);
+    struct part ticks = { longest, sizeof longest };
+    try_replay(after, ticks, sizeof full, RUMQATISS_DONE, wait, RUMQATISS_LONGEST_LOG, RUMQATISS_LONGEST_LOG, after);
 }
 
 /* Lengths at which two bytes, or the log's limit, end. */
@@ -360,18 +471,26 @@ int main(int argc, char **argv) {
         printf("usage: test BOARD.tsv LOAD.tsv REPLAY.tsv\n");
         return 1;
     }
+    paint();
     try_table("board", argv[1], 9, board_row);
     try_table("load", argv[2], 7, load_row);
     try_table("replay", argv[3], 7, replay_row);
     try_rooms();
     table = "record lengths";
     try_lengths();
+    table = "refusals";
+    try_refusals();
     table = "longest image";
     try_longest();
     table = "large buffers";
     try_large();
     table = "null pointers";
     try_nulls();
-    printf("limits: record lengths, the longest image, large buffers and null pointers agree\n");
+    printf("limits: record lengths, refusals, the longest image, large buffers and null pointers agree\n");
+    if (stack_used() > RUMQATISS_STACK) {
+        printf("stack: %d bytes used, %d promised\n", (int)stack_used(), RUMQATISS_STACK);
+        return 1;
+    }
+    printf("stack: within %d bytes\n", RUMQATISS_STACK);
     return 0;
 }

@@ -25,7 +25,7 @@
    - An image is taken only where it is that of a consistent state, byte for byte, with nothing behind it: image_len is exactly
      the length that the image says.
    This is proved of the library's source, and c/test.c tries it on what the compiler made of that. Not proved: that your stack is
-   large enough. A call was measured to use less than 6 KB of it.
+   large enough. c/test.c measures what its calls use, which is no more than RUMQATISS_STACK bytes.
 
    THE IMAGE begins with 8 bytes: the edition, which is 1; the last number given; the running thread's place, or 255; how many
    threads live; how many are ready; how many wait for the clock; and the image's length, in two bytes, the lower first. Four bytes
@@ -80,6 +80,7 @@ extern "C" {
 #define RUMQATISS_RECORD_LENGTHS { 1, 6, 2, 6, 2, 1, 1, 1 }  /* bytes of a record of kind 1, 2, .. 8 */
 #define RUMQATISS_NOBODY 255         /* no number; in a receive, anyone */
 #define RUMQATISS_RULES 1            /* the number of the rules that this build follows, raised by every later change of the rules */
+#define RUMQATISS_STACK 6144         /* bytes of your stack; a call was never measured to use more */
 
 /* Thread numbers run from 0 to 253. */
 
