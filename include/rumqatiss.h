@@ -6,8 +6,8 @@
    examples/board.c shows the whole of it.
 
    A log belongs to its image, and to the build that wrote it: a build whose rules are others may make something else of the same
-   records, and no code tells. So keep RUMQATISS_RULES beside the log, and replay a log only where the number is the same. An image
-   with an empty log needs no number: whether a build takes it can be seen from its bytes.
+   records, and return 0. So keep RUMQATISS_RULES beside the log, and replay a log only where the number is the same. An image with
+   an empty log needs no number: whether a build takes it is told by its bytes.
 
    WHAT YOU OWE
    - A buffer is a pointer and a length. The pointer points to at least that many bytes. Any bytes may stand in them: an
