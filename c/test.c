@@ -112,7 +112,7 @@ static void settle(const char *name, uint8_t code, uint8_t want) {
 
 /* ---- the stack */
 
-/* Every call runs on this stack, which is painted before the first. What is no longer painted after the last was used. */
+/* Every call that is tried runs on this stack, which is painted before the first. What is not painted after the last was used. */
 static _Alignas(16) uint8_t stack[64 * 1024];
 
 static void paint(void) {
