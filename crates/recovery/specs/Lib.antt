@@ -1,4 +1,6 @@
 pub mod Chain
 pub mod Turns
 pub mod History
+pub mod Runs
+pub mod Boots
 pub mod Counted

@@ -1,1 +1,1 @@
-// What comes back after the power has failed, in specs/: an image and a log cut at any byte give the rules' state for the history up to the last whole record; and the counted cases as one table. No code.
+// Demands 2 and 3 over what the public operations promise, in specs/: every turn comes in a chain of replies; a terminal's whole life, and a board's, in which the power fails at any byte; and the counted cases as one table. No code.

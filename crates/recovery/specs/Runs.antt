@@ -1,5 +1,5 @@
 -- A BOARD THAT RUNS: any records handed over one after the other, each with the image that the last accepted call gave and a buffer with room. The images are
--- those of the rules' states for that history, and codes, choices and numbers are the rules'. From the first boot on, power failures among them: Back.antt.
+-- those of the rules' states for that history, and codes, choices and numbers are the rules'. From the first boot on, power failures among them: Boots.antt.
 use mathlib.Core.Path.{_≡_, refl, sym, ap, ap₂, subst, _∙_}
 use mathlib.Core.Logic.{_≢_}
 use mathlib.Core.List.{List, [], _∷_, _++_}
@@ -43,10 +43,10 @@ heard PastEnd size = []
 abbrev pub eventsOf : List ℕ → List Event
 eventsOf rec = heard (readAt rec 0) (length rec)
 
--- a history: the events of all that was handed over, also of those that the rules refuse
-abbrev pub history : List (List ℕ) → List Event
-history [] = []
-history (rec ∷ recs) = eventsOf rec ++ history recs
+-- the events of all that was handed over, also of those that the rules refuse
+abbrev pub allEvents : List (List ℕ) → List Event
+allEvents [] = []
+allEvents (rec ∷ recs) = eventsOf rec ++ allEvents recs
 
 -- code, choice and number of an outcome, and the length of the new image
 abbrev pub told : Outcome → Told
@@ -158,9 +158,9 @@ heard-consistent m PastEnd size C f = C
 
 -- ---- all of them, from an image that stands for m
 pub record Ran (m : Model) (recs : List (List ℕ)) (ts : List Told) (last : List ℕ) : Type 0 where
-  pub image : last ≡ encode (after (history recs) m)
+  pub image : last ≡ encode (after (allEvents recs) m)
   pub answers : ts ≡ allSaid m recs
-  pub consistent : Consistent (after (history recs) m)
+  pub consistent : Consistent (after (allEvents recs) m)
 
 pub ran : {image last : List ℕ} {recs : List (List ℕ)} {ts : List Told} (m : Model) → Consistent m → encode m ≡ image → Calls image recs ts last → Ran m recs ts last
 ran m C e over = record { image = sym e; answers = refl; consistent = C }
@@ -168,15 +168,15 @@ ran m C e (accepted {rec = rec} {recs = recs} b h k z rest) =
     let s = step-on m C e b h k in
     let n : Model = after (eventsOf rec) m in
     let r = ran n (heard-consistent m (readAt rec 0) (length rec) C (λ e n q. read-whole rec 0 e n b q .fits)) (sym (s .image z)) rest in
-    record { image = r .image ∙ ap encode (sym (after-append (eventsOf rec) (history recs) m)); answers = ap₂ (λ (t : Told) (ts : List Told). t ∷ ts) (s .same) (r .answers); consistent = rw (after-append (eventsOf rec) (history recs) m) (r .consistent) }
+    record { image = r .image ∙ ap encode (sym (after-append (eventsOf rec) (allEvents recs) m)); answers = ap₂ (λ (t : Told) (ts : List Told). t ∷ ts) (s .same) (r .answers); consistent = rw (after-append (eventsOf rec) (allEvents recs) m) (r .consistent) }
 ran m C e (refused {rec = rec} {recs = recs} b h k z rest) =
     let s = step-on m C e b h k in
     let q = s .still z .0 in
     let r = ran m C e rest in
     record {
-      image = r .image ∙ ap (λ (x : Model). encode (after (history recs) x)) (sym q) ∙ ap encode (sym (after-append (eventsOf rec) (history recs) m));
+      image = r .image ∙ ap (λ (x : Model). encode (after (allEvents recs) x)) (sym q) ∙ ap encode (sym (after-append (eventsOf rec) (allEvents recs) m));
       answers = ap₂ (λ (t : Told) (ts : List Told). t ∷ ts) (s .same) (r .answers ∙ ap (λ (x : Model). allSaid x recs) (sym q));
-      consistent = rw (after-append (eventsOf rec) (history recs) m, q) (r .consistent);
+      consistent = rw (after-append (eventsOf rec) (allEvents recs) m, q) (r .consistent);
     }
 
 -- ---- a refused call changes nothing, whatever the buffer

@@ -28,10 +28,10 @@ use Rattle.image.specs.Injective.{encode-injective}
 use Rattle.logbook.specs.Log.{limit, Parsed, logOf}
 use Rattle.logbook.specs.Cut.{wholeIn, cutCode, cutAt, fit-append, fit-whole, cut-log}
 use Rattle.logbook.specs.History.{refusal-low, log-append, after-append, whole-log}
 use Rattle.board.specs.Promise.{placed, kept, replayOn, Replays, unread, played, freshOn}
-use Rattle.board.specs.Runs.{heard, eventsOf, history, saidOf, allSaid, Calls, calls-bytes, Ran, ran}
+use Rattle.recovery.specs.Runs.{heard, eventsOf, allEvents, saidOf, allSaid, Calls, calls-bytes, Ran, ran}
 use Rattle.board.specs.declared.Told.{Told}
 use Rattle.board.specs.declared.Brought.{Brought}
 
 -- ---- the log that the C side keeps: what was handed over, where the code says that it was a record
 -- the codes below this one: the event happened, or the rules refused it
@@ -68,31 +68,31 @@ logged-one m rec b UnknownKind q = (refl, tt)
 logged-one m rec b PastEnd q = (refl, tt)
 
 -- so the log is that of the history
-logged-all : (m : Model) (recs : List (List ℕ)) → Every Bytes recs → (logged (allSaid m recs) recs ≡ logOf (history recs)) × AllFit (history recs)
+logged-all : (m : Model) (recs : List (List ℕ)) → Every Bytes recs → (logged (allSaid m recs) recs ≡ logOf (allEvents recs)) × AllFit (allEvents recs)
 logged-all m [] b = (refl, tt)
 logged-all m (rec ∷ recs) b =
     let o = logged-one m rec (b .0) (readAt rec 0) refl in
     let i = logged-all (after (eventsOf rec) m) recs (b .1) in
-    (ap₂ (λ (x y : List ℕ). x ++ y) (o .0) (i .0) ∙ sym (log-append (eventsOf rec) (history recs)), fit-append (eventsOf rec) (history recs) (o .1) (i .1))
+    (ap₂ (λ (x y : List ℕ). x ++ y) (o .0) (i .0) ∙ sym (log-append (eventsOf rec) (allEvents recs)), fit-append (eventsOf rec) (allEvents recs) (o .1) (i .1))
 
 -- ---- what a board lives through
--- bs: the events before the image in its store; fs: those since. image: the present one. kept, log: what stands in its store.
+-- bs: the events before the image in its store; fs: those since. image: the present one. base, log: what stands in its store.
 pub data Boarded : List Event → List Event → List ℕ → List ℕ → List ℕ → Type 0 where
   -- its first boot: the fresh image is the present one, and kept with an empty log
   begun : (out : List ℕ) {a : List ℕ} {c n : ℕ} → longestImage ≤ length out → (c, n, a) ≡ freshOn out → Boarded [] [] (take n a) (take n a) []
   -- records are handed over one after the other, and logged
-  handed : {bs fs : List Event} {image last kept log : List ℕ} {recs : List (List ℕ)} {ts : List Told} → Boarded bs fs image kept log → Calls image recs ts last
-      → Boarded bs (fs ++ history recs) last kept (log ++ logged ts recs)
+  handed : {bs fs : List Event} {image last base log : List ℕ} {recs : List (List ℕ)} {ts : List Told} → Boarded bs fs image base log → Calls image recs ts last
+      → Boarded bs (fs ++ allEvents recs) last base (log ++ logged ts recs)
   -- the present image takes the place of the one kept, with an empty log
-  renewed : {bs fs : List Event} {image kept log : List ℕ} → Boarded bs fs image kept log → Boarded (bs ++ fs) [] image image []
+  renewed : {bs fs : List Event} {image base log : List ℕ} → Boarded bs fs image base log → Boarded (bs ++ fs) [] image image []
   -- The power fails, and the first k bytes of the log are left. They are replayed on the image kept, which gives the present one; what stands behind the
   -- records that came back is cut off.
-  back : {bs fs : List Event} {image kept log out buffer : List ℕ} {k : ℕ} {t : Brought} → Boarded bs fs image kept log → k ≤ length log → k ≤ limit → longestImage ≤ length out
-      → Replays kept (take k log) out (t, buffer) → Boarded bs (wholeIn k fs) (take (t .length) buffer) kept (take (t .bytes) log)
+  back : {bs fs : List Event} {image base log out buffer : List ℕ} {k : ℕ} {t : Brought} → Boarded bs fs image base log → k ≤ length log → k ≤ limit → longestImage ≤ length out
+      → Replays base (take k log) out (t, buffer) → Boarded bs (wholeIn k fs) (take (t .length) buffer) base (take (t .bytes) log)
 
 -- ---- what comes back
 -- bs: the events before the image kept. whole: those of the log whose records are whole in the cut, of k bytes.
-pub record Back (bs whole : List Event) (k : ℕ) (t : Brought) (buffer : List ℕ) : Type 0 where
+pub record Restored (bs whole : List Event) (k : ℕ) (t : Brought) (buffer : List ℕ) : Type 0 where
   pub image : take (t .length) buffer ≡ encode (after (bs ++ whole) fresh)
   pub choice : t .choice ≡ choiceKind (chosen (after (bs ++ whole) fresh))
   pub next : t .next ≡ choiceRuns (chosen (after (bs ++ whole) fresh))
@@ -116,21 +116,21 @@ brings m C es f k h g {out = out} e w (played n D d q) =
     q ∙ ap (λ (m : Model). replayOn m (take k (logOf es)) out) x ∙ rw (le-ltb limit (length (take k (logOf es))) (omega arith)) (ap (λ (p : Parsed). kept m p out) (cut-log es f k h))
 
 -- ---- at any time the images are those of the rules' states, and the log is that of the history
-record Stays (bs fs : List Event) (image kept log : List ℕ) : Type 0 where
+record Stays (bs fs : List Event) (image base log : List ℕ) : Type 0 where
   present : image ≡ encode (after (bs ++ fs) fresh)
-  at-save : kept ≡ encode (after bs fresh)
+  at-save : base ≡ encode (after bs fresh)
   records : log ≡ logOf fs
   before : AllFit bs
   since : AllFit fs
 
 -- what comes back of such a store
-stays-back : {bs fs : List Event} {image kept log : List ℕ} → Stays bs fs image kept log → (k : ℕ) → k ≤ length log → k ≤ limit → {out buffer : List ℕ} {t : Brought}
-    → longestImage ≤ length out → Replays kept (take k log) out (t, buffer) → Back bs (wholeIn k fs) k t buffer
-stays-back {bs} {fs} {kept = kept} S k h g {out} {buffer} {t} w R =
+stays-back : {bs fs : List Event} {image base log : List ℕ} → Stays bs fs image base log → (k : ℕ) → k ≤ length log → k ≤ limit → {out buffer : List ℕ} {t : Brought}
+    → longestImage ≤ length out → Replays base (take k log) out (t, buffer) → Restored bs (wholeIn k fs) k t buffer
+stays-back {bs} {fs} {base = base} S k h g {out} {buffer} {t} w R =
     let es : List Event = wholeIn k fs in
     let m : Model = after bs fresh in
     let C : Consistent m = always bs fresh fresh-consistent (S .before) in
-    let F : Replays kept (take k (logOf fs)) out (t, buffer) = rw (S .records) at R in
+    let F : Replays base (take k (logOf fs)) out (t, buffer) = rw (S .records) at R in
     let j : k ≤ length (logOf fs) = rw (S .records) at h in
     let D : Consistent (after es m) = always es m C (fit-whole k fs (S .since)) in
     let q = brings m C fs (S .since) k j g (sym (S .at-save)) w F ∙ kept-back m (cutAt k fs) out D w in
@@ -146,7 +146,7 @@ stays-back {bs} {fs} {kept = kept} S k h g {out} {buffer} {t} w R =
     }
 
 -- what is handed over to its present image
-stays-runs : {bs fs : List Event} {image kept log last : List ℕ} {recs : List (List ℕ)} {ts : List Told} → Stays bs fs image kept log → Calls image recs ts last
+stays-runs : {bs fs : List Event} {image base log last : List ℕ} {recs : List (List ℕ)} {ts : List Told} → Stays bs fs image base log → Calls image recs ts last
     → Ran (after (bs ++ fs) fresh) recs ts last
 stays-runs {bs} {fs} S k = ran (after (bs ++ fs) fresh) (always (bs ++ fs) fresh fresh-consistent (fit-append bs fs (S .before) (S .since))) (sym (S .present)) k
 
@@ -156,7 +156,7 @@ fresh-front out {a} {c} {n} h e =
     let w : _≡_ {A = ℕ × ℕ × List ℕ} (c, n, a) (0, length i, i ++ drop (length i) out) = rw (le-ltb (length out) (length i) h) at e in
     sym (take-at i (drop (length i) out) (length i) refl) ∙ ap (λ (x : ℕ × ℕ × List ℕ). take (x .1) (x .2)) (sym w)
 
-stays : {bs fs : List Event} {image kept log : List ℕ} → Boarded bs fs image kept log → Stays bs fs image kept log
+stays : {bs fs : List Event} {image base log : List ℕ} → Boarded bs fs image base log → Stays bs fs image base log
 stays (begun out h e) =
     let l = longest fresh fresh-consistent in
     let f = fresh-front out (omega arith) e in
@@ -165,15 +165,15 @@ stays (handed {bs = bs} {fs = fs} {log = log} {recs = recs} {ts = ts} B k) =
     let S = stays B in
     let R = stays-runs S k in
     let L = logged-all (after (bs ++ fs) fresh) recs (calls-bytes k) in
-    let new : logged ts recs ≡ logOf (history recs) = ap (λ (x : List Told). logged x recs) (R .answers) ∙ L .0 in
-    let h : after (history recs) (after (bs ++ fs) fresh) ≡ after (bs ++ (fs ++ history recs)) fresh =
-    sym (after-append (bs ++ fs) (history recs) fresh) ∙ ap (λ (l : List Event). after l fresh) (append-assoc bs fs (history recs)) in
+    let new : logged ts recs ≡ logOf (allEvents recs) = ap (λ (x : List Told). logged x recs) (R .answers) ∙ L .0 in
+    let h : after (allEvents recs) (after (bs ++ fs) fresh) ≡ after (bs ++ (fs ++ allEvents recs)) fresh =
+    sym (after-append (bs ++ fs) (allEvents recs) fresh) ∙ ap (λ (l : List Event). after l fresh) (append-assoc bs fs (allEvents recs)) in
     record {
       present = R .image ∙ ap encode h;
       at-save = S .at-save;
-      records = ap₂ (λ (x y : List ℕ). x ++ y) (S .records) new ∙ sym (log-append fs (history recs));
+      records = ap₂ (λ (x y : List ℕ). x ++ y) (S .records) new ∙ sym (log-append fs (allEvents recs));
       before = S .before;
-      since = fit-append fs (history recs) (S .since) (L .1);
+      since = fit-append fs (allEvents recs) (S .since) (L .1);
     }
 stays (renewed {bs = bs} {fs = fs} B) =
     let S = stays B in
@@ -196,13 +196,13 @@ stays (back {bs = bs} {fs = fs} {log = log} {k = k} B h g w r) =
     }
 
 -- ---- the theorems
-module _ {bs fs : List Event} {image kept log : List ℕ} (life : Boarded bs fs image kept log) where
+module _ {bs fs : List Event} {image base log : List ℕ} (life : Boarded bs fs image base log) where
   -- Whatever is handed over, at any time of its life: images, codes, choices and numbers are those of the rules, for the history so far.
   pub board-runs : {last : List ℕ} {recs : List (List ℕ)} {ts : List Told} → Calls image recs ts last → Ran (after (bs ++ fs) fresh) recs ts last
   board-runs = stays-runs (stays life)
 
   -- Whenever the power fails: the image kept, and the log cut at any byte, bring back the image of the rules' state after the events before the image, and
   -- those of the log that are whole.
-  pub board-back : (k : ℕ) → k ≤ length log → k ≤ limit → {out buffer : List ℕ} {t : Brought} → longestImage ≤ length out → Replays kept (take k log) out (t, buffer)
-      → Back bs (wholeIn k fs) k t buffer
+  pub board-back : (k : ℕ) → k ≤ length log → k ≤ limit → {out buffer : List ℕ} {t : Brought} → longestImage ≤ length out → Replays base (take k log) out (t, buffer)
+      → Restored bs (wholeIn k fs) k t buffer
   board-back = stays-back (stays life)
