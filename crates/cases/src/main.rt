@@ -4,6 +4,8 @@ use nucleus::State;
 use rules::Number;
 use rules::Place;
 
+mod mangled;
+
 const ANY: u8 = rules::NOBODY;
 
 fn main() {
@@ -16,10 +18,11 @@ fn main() {
     sticks();
     fills();
     logs();
+    mangled::all();
 }
 
 // What an event answered, and the thread at p then.
-fn line(what: &[u8], r: Reply, p: u8) -> State {
+fn line(what: &[u8], r: Reply, p: Place) -> State {
     console::text(what);
     console::text(b": ");
     let choice = r.choice;
@@ -31,11 +34,11 @@ fn line(what: &[u8], r: Reply, p: u8) -> State {
 }
 
 // The thread at p: its number, standing, and answer.
-fn thread(s: State, p: u8) {
-    let t = s.thread(Place(p));
+fn thread(s: State, p: Place) {
+    let t = s.thread(p);
     let a = t.answer;
     console::text(b"    place ");
-    console::number(p as u64);
+    console::number(p.0 as u64);
     console::text(b": thread ");
     console::number(t.number.0 as u64);
     console::text(b" stands ");
@@ -66,8 +69,8 @@ fn kept(s: State) {
 
 // Create twice.
 fn two() -> State {
-    let s = line(b"create", State::fresh().create(), 0);
-    let s = line(b"create again", s.create(), 1);
+    let s = line(b"create", State::fresh().create(), Place(0));
+    let s = line(b"create again", s.create(), Place(1));
     kept(s);
     s
 }
@@ -75,25 +78,25 @@ fn two() -> State {
 // The pair meets: 0 receives, 1 sends, 0 replies.
 fn pair() {
     let s = two();
-    let s = line(b"0 receives any", s.receive(Number(ANY)), 1);
-    let s = line(b"1 sends 7 to 0", s.send(Number(0), 7), 0);
-    let s = line(b"0 replies 9", s.reply(Number(1), 9), 1);
-    thread(s, 0);
+    let s = line(b"0 receives any", s.receive(Number(ANY)), Place(1));
+    let s = line(b"1 sends 7 to 0", s.send(Number(0), 7), Place(0));
+    let s = line(b"0 replies 9", s.reply(Number(1), 9), Place(1));
+    thread(s, Place(0));
 }
 
 // A receiver ends: its sender has its own word back, and the number is not given again at once.
 fn ended() {
     let s = two();
-    let s = line(b"0 sends 7 to 1", s.send(Number(1), 7), 0);
-    let s = line(b"1 is ended", s.end(Number(1)), 0);
-    line(b"the next create", s.create(), 1);
+    let s = line(b"0 sends 7 to 1", s.send(Number(1), 7), Place(0));
+    let s = line(b"1 is ended", s.end(Number(1)), Place(0));
+    line(b"the next create", s.create(), Place(1));
 }
 
 fn refused() {
-    let s = line(b"0 alone", State::fresh().create(), 0);
-    line(b"0 sends to 254", s.send(Number(254), 7), 0);
-    line(b"0 sends to 0", s.send(Number(0), 7), 0);
-    line(b"0 sends to 5", s.send(Number(5), 7), 0);
+    let s = line(b"0 alone", State::fresh().create(), Place(0));
+    line(b"0 sends to 254", s.send(Number(254), 7), Place(0));
+    line(b"0 sends to 0", s.send(Number(0), 7), Place(0));
+    line(b"0 sends to 5", s.send(Number(5), 7), Place(0));
 }
 
 fn wrapped() {
@@ -101,19 +104,19 @@ fn wrapped() {
     let mut s = r.state;
     let last = Number(rules::LAST_NUMBER);
     s.last = last;
-    line(b"last given 253, only 0 live: create", s.create(), 1);
+    line(b"last given 253, only 0 live: create", s.create(), Place(1));
 }
 
 fn waits() {
-    let s = line(b"0 alone", State::fresh().create(), 0);
-    let s = line(b"0 waits for the clock", s.wait_clock(), 0);
-    line(b"tick", s.tick(), 0);
+    let s = line(b"0 alone", State::fresh().create(), Place(0));
+    let s = line(b"0 waits for the clock", s.wait_clock(), Place(0));
+    line(b"tick", s.tick(), Place(0));
 }
 
 fn sticks() {
-    let s = line(b"0 alone", State::fresh().create(), 0);
-    let s = line(b"0 receives any", s.receive(Number(ANY)), 0);
-    line(b"tick", s.tick(), 0);
+    let s = line(b"0 alone", State::fresh().create(), Place(0));
+    let s = line(b"0 receives any", s.receive(Number(ANY)), Place(0));
+    line(b"tick", s.tick(), Place(0));
 }
 
 // 32 creates pass; the 33rd does not.
@@ -126,7 +129,7 @@ fn fills() {
         s = after;
         i += 1;
     }
-    let s = line(b"create with 32 live", s.create(), 31);
+    let s = line(b"create with 32 live", s.create(), Place(31));
     console::text(b"    live: ");
     console::number(s.live() as u64);
     console::text(b"\n");
