@@ -1,4 +1,4 @@
-// Runs the cases of "Loads that were counted" and prints a line for each answer: its code, the choice, the number, and the thread looked at.
+// Runs the cases of "Loads that were counted", and every operation on states that are not consistent, and prints what each answers.
 use nucleus::Reply;
 use nucleus::State;
 use rules::Number;
