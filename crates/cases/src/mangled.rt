@@ -120,7 +120,7 @@ fn looked(s: State) {
     let p = s.empty_place();
     console::number(p.0 as u64);
     console::text(b", thread");
-    fields(s.thread(Place(2)));
+    fields(s.thread(Place(0)));
     console::text(b"\n");
 }
 
