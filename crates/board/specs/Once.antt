@@ -1,13 +1,22 @@
 -- The board's promises have one outcome each: no second answer, and no other byte of the buffer, meets them. (The fresh image's promise is an equation, and a
--- look-up's is settled by `locate-one` of the image.)
-use mathlib.Core.Path.{_≡_, sym, ap, _∙_}
+-- look-up's is settled by `locate-one` of the image.) And a call that is refused changes no byte of the buffer.
+use mathlib.Core.Path.{_≡_, refl, sym, ap, _∙_}
+use mathlib.Core.Logic.{_≢_}
 use mathlib.Core.List.{List}
 use Prim.Native.Nat.{ℕ}
+use lib.Dec.{eqb, ltb}
+use lib.ListN.{length}
+use Rattle.lists.specs.Laws.{by-test}
 use Rattle.rules.specs.Model.{Model}
+use Rattle.rules.specs.Rules.{Outcome, outcome}
 use Rattle.rules.specs.declared.Choice.the-variants.{Halt}
+use Rattle.journal.specs.Format.{readAt}
+use Rattle.journal.specs.declared.Read.{Read}
+use Rattle.journal.specs.declared.Read.the-variants.{Record, AtEnd, CutShort, UnknownKind, PastEnd}
+use Rattle.image.specs.Format.{encode}
 use Rattle.image.specs.Accepts.{refuses-not, refuses-one}
 use Rattle.image.specs.Injective.{encode-injective}
-use Rattle.board.specs.Promise.{declined, stepOn, Boards, unloaded, stepped, unplayed, replayOn, Replays, unread, played}
+use Rattle.board.specs.Promise.{declined, acted, taken, stepOn, Boards, unloaded, stepped, unplayed, replayOn, Replays, unread, played}
 use Rattle.board.specs.declared.Told.{Told}
 use Rattle.board.specs.declared.Brought.{Brought}
 
@@ -22,3 +31,22 @@ replay-one {out = out} (unread c R h) (unread d Q g) = h ∙ ap (λ (c : ℕ). (
 replay-one (unread c R h) (played n D f g) = absurd (refuses-not R (n, D, f))
 replay-one (played m C e h) (unread d Q g) = absurd (refuses-not Q (m, C, e))
 replay-one {log = log} {out = out} (played m C e h) (played n D f g) = h ∙ ap (λ (m : Model). replayOn m log out) (encode-injective m n C D (e ∙ sym f)) ∙ sym g
+
+-- ---- a refused call changes nothing, however long the buffer
+acted-still : (m : Model) (o : Outcome) (out : List ℕ) → acted m o out .0 .code ≢ 0 → acted m o out .1 ≡ out
+unfolding acted
+acted-still m o out h =
+    by-test (eqb (o .code) 0)
+    (λ t. by-test (ltb (length out) (length (encode (o .state)))) (λ u. rw (t, u) refl) (λ u. absurd ((rw (t, u) at h) refl)))
+    (λ t. rw t refl)
+
+taken-still : (m : Model) (r : Read) (size : ℕ) (out : List ℕ) → taken m r size out .0 .code ≢ 0 → taken m r size out .1 ≡ out
+taken-still m (Record e n) size out h = by-test (eqb n size) (λ t. rw t (acted-still m (outcome e m) out (rw t at h))) (λ t. rw t refl)
+taken-still m AtEnd size out h = refl
+taken-still m CutShort size out h = refl
+taken-still m UnknownKind size out h = refl
+taken-still m PastEnd size out h = refl
+
+pub refused-still : {image rec out : List ℕ} {t : Told × List ℕ} → Boards image rec out t → t .0 .code ≢ 0 → t .1 ≡ out
+refused-still (unloaded c R g) z = ap (λ (x : Told × List ℕ). x .1) g
+refused-still {rec = rec} {out = out} (stepped m C e g) z = ap (λ (x : Told × List ℕ). x .1) g ∙ taken-still m (readAt rec 0) (length rec) out (rw g at z)

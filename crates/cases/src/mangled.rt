@@ -1,5 +1,6 @@
 // States that are not consistent, each by one thing that is wrong in it. Every public operation on states is run on each of them: it is to give 14, or
-// halt, nobody, none, and to leave the state, and the buffer that it was lent, as it was.
+// halt, nobody, none, and to leave the state, and the buffer that it was lent, as it was. The same is run on the state that they are made of, which is
+// consistent, so that the output shows that the answers can be others.
 use lines::Links;
 use logbook::Recorded;
 use nucleus::Reply;
@@ -155,7 +156,7 @@ fn acted(s: State) {
     }
 }
 
-// 1 to 8.
+// Each of the eight events by its own method, and one by `step`.
 fn events(s: State) -> bool {
     let a = event(s, s.create());
     let b = event(s, s.send(Number(3), 7));
@@ -165,7 +166,8 @@ fn events(s: State) -> bool {
     let f = event(s, s.wait_clock());
     let g = event(s, s.slice_end());
     let h = event(s, s.tick());
-    a & b & c & d & e & f & g & h
+    let i = event(s, s.step(Event::Tick));
+    a & b & c & d & e & f & g & h & i
 }
 
 fn event(s: State, r: Reply) -> bool {
@@ -176,7 +178,7 @@ fn event(s: State, r: Reply) -> bool {
     told(r.code, none & same(s, t))
 }
 
-// A buffer that would hold any image.
+// The buffer would hold any image.
 fn saved(s: State) -> bool {
     let before = [BLANK; image::LONGEST];
     let mut buffer = before;
@@ -202,7 +204,7 @@ fn unrecorded(s: State, r: Recorded, kept: bool) -> bool {
     told(r.code, none & kept & same(s, t))
 }
 
-// A log of a create and a tick.
+// The log is that of a create and a tick.
 fn replayed(s: State) -> bool {
     let log = [1u8, 8];
     let r = logbook::replay(s, &log);

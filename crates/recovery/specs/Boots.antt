@@ -1,5 +1,6 @@
 -- A BOARD THAT COMES BACK (demand 3, as C sees it), boot after boot, as its start code does it: what `rumqatiss_fresh`, `rumqatiss_board` and
--- `rumqatiss_replay` promise, and nothing else. So the C side need believe nothing but the rules.
+-- `rumqatiss_replay` promise, and nothing else. So the C side need believe nothing but the rules. It begins with the fresh image, or with any image that the
+-- library takes, as one does that the build before an update has left.
 use mathlib.Core.Path.{_≡_, refl, sym, ap, ap₂, _∙_}
 use mathlib.Core.List.{List, [], _∷_, _++_, append-assoc, append-nil}
 use mathlib.Core.Bool.{cond}
@@ -76,26 +77,35 @@ logged-all m (rec ∷ recs) b =
     (ap₂ (λ (x y : List ℕ). x ++ y) (o .0) (i .0) ∙ sym (log-append (eventsOf rec) (allEvents recs)), fit-append (eventsOf rec) (allEvents recs) (o .1) (i .1))
 
 -- ---- what a board lives through
--- bs: the events before the image in its store; fs: those since. image: the present one. base, log: what stands in its store.
-pub data Boarded : List Event → List Event → List ℕ → List ℕ → List ℕ → Type 0 where
-  -- its first boot: the fresh image is the present one, and kept with an empty log
-  begun : (out : List ℕ) {a : List ℕ} {c n : ℕ} → longestImage ≤ length out → (c, n, a) ≡ freshOn out → Boarded [] [] (take n a) (take n a) []
+-- m: the state that its first image stands for. bs: the events before the image in its store; fs: those since. image: the present one. base, log: what stands
+-- in its store.
+pub data Boarded (m : Model) : List Event → List Event → List ℕ → List ℕ → List ℕ → Type 0 where
+  -- it begins: its image is kept with an empty log
+  begun : {image : List ℕ} → encode m ≡ image → Boarded m [] [] image image []
   -- records are handed over one after the other, and logged
-  handed : {bs fs : List Event} {image last base log : List ℕ} {recs : List (List ℕ)} {ts : List Told} → Boarded bs fs image base log → Calls image recs ts last
-      → Boarded bs (fs ++ allEvents recs) last base (log ++ logged ts recs)
+  handed : {bs fs : List Event} {image last base log : List ℕ} {recs : List (List ℕ)} {ts : List Told} → Boarded m bs fs image base log → Calls image recs ts last
+      → Boarded m bs (fs ++ allEvents recs) last base (log ++ logged ts recs)
   -- the present image takes the place of the one kept, with an empty log
-  renewed : {bs fs : List Event} {image base log : List ℕ} → Boarded bs fs image base log → Boarded (bs ++ fs) [] image image []
+  renewed : {bs fs : List Event} {image base log : List ℕ} → Boarded m bs fs image base log → Boarded m (bs ++ fs) [] image image []
   -- The power fails, and the first k bytes of the log are left. They are replayed on the image kept, which gives the present one; what stands behind the
   -- records that came back is cut off.
-  back : {bs fs : List Event} {image base log out buffer : List ℕ} {k : ℕ} {t : Brought} → Boarded bs fs image base log → k ≤ length log → k ≤ limit → longestImage ≤ length out
-      → Replays base (take k log) out (t, buffer) → Boarded bs (wholeIn k fs) (take (t .length) buffer) base (take (t .bytes) log)
+  booted : {bs fs : List Event} {image base log out buffer : List ℕ} {k : ℕ} {t : Brought} → Boarded m bs fs image base log → k ≤ length log → k ≤ limit → longestImage ≤ length out
+      → Replays base (take k log) out (t, buffer) → Boarded m bs (wholeIn k fs) (take (t .length) buffer) base (take (t .bytes) log)
+
+-- its first boot: the fresh image
+pub first-boot : (out : List ℕ) {a : List ℕ} {c n : ℕ} → longestImage ≤ length out → (c, n, a) ≡ freshOn out → Boarded fresh [] [] (take n a) (take n a) []
+first-boot out {a} {c} {n} h e =
+    let i : List ℕ = encode fresh in
+    let l = longest fresh fresh-consistent in
+    let w : _≡_ {A = ℕ × ℕ × List ℕ} (c, n, a) (0, length i, i ++ drop (length i) out) = rw (le-ltb (length out) (length i) (omega arith)) at e in
+    begun (sym (take-at i (drop (length i) out) (length i) refl) ∙ ap (λ (x : ℕ × ℕ × List ℕ). take (x .1) (x .2)) (sym w))
 
 -- ---- what comes back
 -- bs: the events before the image kept. whole: those of the log whose records are whole in the cut, of k bytes.
-pub record Restored (bs whole : List Event) (k : ℕ) (t : Brought) (buffer : List ℕ) : Type 0 where
-  pub image : take (t .length) buffer ≡ encode (after (bs ++ whole) fresh)
-  pub choice : t .choice ≡ choiceKind (chosen (after (bs ++ whole) fresh))
-  pub next : t .next ≡ choiceRuns (chosen (after (bs ++ whole) fresh))
+pub record Restored (m : Model) (bs whole : List Event) (k : ℕ) (t : Brought) (buffer : List ℕ) : Type 0 where
+  pub image : take (t .length) buffer ≡ encode (after (bs ++ whole) m)
+  pub choice : t .choice ≡ choiceKind (chosen (after (bs ++ whole) m))
+  pub next : t .next ≡ choiceRuns (chosen (after (bs ++ whole) m))
   pub records : t .records ≡ length whole
   pub bytes : t .bytes ≡ length (logOf whole)
   pub code : t .code ≡ cutCode k (length (logOf whole))
@@ -116,93 +126,85 @@ brings m C es f k h g {out = out} e w (played n D d q) =
     q ∙ ap (λ (m : Model). replayOn m (take k (logOf es)) out) x ∙ rw (le-ltb limit (length (take k (logOf es))) (omega arith)) (ap (λ (p : Parsed). kept m p out) (cut-log es f k h))
 
 -- ---- at any time the images are those of the rules' states, and the log is that of the history
-record Stays (bs fs : List Event) (image base log : List ℕ) : Type 0 where
-  present : image ≡ encode (after (bs ++ fs) fresh)
-  at-save : base ≡ encode (after bs fresh)
-  records : log ≡ logOf fs
-  before : AllFit bs
-  since : AllFit fs
+module _ {m : Model} (C : Consistent m) where
+  record InStep (bs fs : List Event) (image base log : List ℕ) : Type 0 where
+    present : image ≡ encode (after (bs ++ fs) m)
+    at-save : base ≡ encode (after bs m)
+    records : log ≡ logOf fs
+    before : AllFit bs
+    since : AllFit fs
 
--- what comes back of such a store
-stays-back : {bs fs : List Event} {image base log : List ℕ} → Stays bs fs image base log → (k : ℕ) → k ≤ length log → k ≤ limit → {out buffer : List ℕ} {t : Brought}
-    → longestImage ≤ length out → Replays base (take k log) out (t, buffer) → Restored bs (wholeIn k fs) k t buffer
-stays-back {bs} {fs} {base = base} S k h g {out} {buffer} {t} w R =
-    let es : List Event = wholeIn k fs in
-    let m : Model = after bs fresh in
-    let C : Consistent m = always bs fresh fresh-consistent (S .before) in
-    let F : Replays base (take k (logOf fs)) out (t, buffer) = rw (S .records) at R in
-    let j : k ≤ length (logOf fs) = rw (S .records) at h in
-    let D : Consistent (after es m) = always es m C (fit-whole k fs (S .since)) in
-    let q = brings m C fs (S .since) k j g (sym (S .at-save)) w F ∙ kept-back m (cutAt k fs) out D w in
-    let z : after es m ≡ after (bs ++ es) fresh = sym (after-append bs es fresh) in
-    let i : List ℕ = encode (after es m) in
-    record {
-      image = ap (λ (x : Brought × List ℕ). take (x .0 .length) (x .1)) q ∙ take-at i (drop (length i) out) (length i) refl ∙ ap encode z;
-      choice = ap (λ (x : Brought × List ℕ). x .0 .choice) q ∙ ap (λ (x : Model). choiceKind (chosen x)) z;
-      next = ap (λ (x : Brought × List ℕ). x .0 .next) q ∙ ap (λ (x : Model). choiceRuns (chosen x)) z;
-      records = ap (λ (x : Brought × List ℕ). x .0 .records) q;
-      bytes = ap (λ (x : Brought × List ℕ). x .0 .bytes) q;
-      code = ap (λ (x : Brought × List ℕ). x .0 .code) q;
-    }
+  -- what comes back of such a store
+  comes-back : {bs fs : List Event} {image base log : List ℕ} → InStep bs fs image base log → (k : ℕ) → k ≤ length log → k ≤ limit → {out buffer : List ℕ} {t : Brought}
+      → longestImage ≤ length out → Replays base (take k log) out (t, buffer) → Restored m bs (wholeIn k fs) k t buffer
+  comes-back {bs} {fs} {base = base} S k h g {out} {buffer} {t} w R =
+      let es : List Event = wholeIn k fs in
+      let n : Model = after bs m in
+      let K : Consistent n = always bs m C (S .before) in
+      let F : Replays base (take k (logOf fs)) out (t, buffer) = rw (S .records) at R in
+      let j : k ≤ length (logOf fs) = rw (S .records) at h in
+      let D : Consistent (after es n) = always es n K (fit-whole k fs (S .since)) in
+      let q = brings n K fs (S .since) k j g (sym (S .at-save)) w F ∙ kept-back n (cutAt k fs) out D w in
+      let z : after es n ≡ after (bs ++ es) m = sym (after-append bs es m) in
+      let i : List ℕ = encode (after es n) in
+      record {
+        image = ap (λ (x : Brought × List ℕ). take (x .0 .length) (x .1)) q ∙ take-at i (drop (length i) out) (length i) refl ∙ ap encode z;
+        choice = ap (λ (x : Brought × List ℕ). x .0 .choice) q ∙ ap (λ (x : Model). choiceKind (chosen x)) z;
+        next = ap (λ (x : Brought × List ℕ). x .0 .next) q ∙ ap (λ (x : Model). choiceRuns (chosen x)) z;
+        records = ap (λ (x : Brought × List ℕ). x .0 .records) q;
+        bytes = ap (λ (x : Brought × List ℕ). x .0 .bytes) q;
+        code = ap (λ (x : Brought × List ℕ). x .0 .code) q;
+      }
 
--- what is handed over to its present image
-stays-runs : {bs fs : List Event} {image base log last : List ℕ} {recs : List (List ℕ)} {ts : List Told} → Stays bs fs image base log → Calls image recs ts last
-    → Ran (after (bs ++ fs) fresh) recs ts last
-stays-runs {bs} {fs} S k = ran (after (bs ++ fs) fresh) (always (bs ++ fs) fresh fresh-consistent (fit-append bs fs (S .before) (S .since))) (sym (S .present)) k
+  -- what is handed over to its present image
+  runs-on : {bs fs : List Event} {image base log last : List ℕ} {recs : List (List ℕ)} {ts : List Told} → InStep bs fs image base log → Calls image recs ts last
+      → Ran (after (bs ++ fs) m) recs ts last
+  runs-on {bs} {fs} S k = ran (after (bs ++ fs) m) (always (bs ++ fs) m C (fit-append bs fs (S .before) (S .since))) (sym (S .present)) k
 
-fresh-front : (out : List ℕ) {a : List ℕ} {c n : ℕ} → length (encode fresh) ≤ length out → (c, n, a) ≡ freshOn out → encode fresh ≡ take n a
-fresh-front out {a} {c} {n} h e =
-    let i : List ℕ = encode fresh in
-    let w : _≡_ {A = ℕ × ℕ × List ℕ} (c, n, a) (0, length i, i ++ drop (length i) out) = rw (le-ltb (length out) (length i) h) at e in
-    sym (take-at i (drop (length i) out) (length i) refl) ∙ ap (λ (x : ℕ × ℕ × List ℕ). take (x .1) (x .2)) (sym w)
-
-stays : {bs fs : List Event} {image base log : List ℕ} → Boarded bs fs image base log → Stays bs fs image base log
-stays (begun out h e) =
-    let l = longest fresh fresh-consistent in
-    let f = fresh-front out (omega arith) e in
-    record { present = sym f; at-save = sym f; records = refl; before = tt {0}; since = tt {0} }
-stays (handed {bs = bs} {fs = fs} {log = log} {recs = recs} {ts = ts} B k) =
-    let S = stays B in
-    let R = stays-runs S k in
-    let L = logged-all (after (bs ++ fs) fresh) recs (calls-bytes k) in
-    let new : logged ts recs ≡ logOf (allEvents recs) = ap (λ (x : List Told). logged x recs) (R .answers) ∙ L .0 in
-    let h : after (allEvents recs) (after (bs ++ fs) fresh) ≡ after (bs ++ (fs ++ allEvents recs)) fresh =
-    sym (after-append (bs ++ fs) (allEvents recs) fresh) ∙ ap (λ (l : List Event). after l fresh) (append-assoc bs fs (allEvents recs)) in
-    record {
-      present = R .image ∙ ap encode h;
-      at-save = S .at-save;
-      records = ap₂ (λ (x y : List ℕ). x ++ y) (S .records) new ∙ sym (log-append fs (allEvents recs));
-      before = S .before;
-      since = fit-append fs (allEvents recs) (S .since) (L .1);
-    }
-stays (renewed {bs = bs} {fs = fs} B) =
-    let S = stays B in
-    record {
-      present = S .present ∙ ap (λ (l : List Event). encode (after l fresh)) (sym (append-nil (bs ++ fs)));
-      at-save = S .present;
-      records = refl;
-      before = fit-append bs fs (S .before) (S .since);
-      since = tt {0};
-    }
-stays (back {bs = bs} {fs = fs} {log = log} {k = k} B h g w r) =
-    let S = stays B in
-    let b = stays-back S k h g w r in
-    record {
-      present = b .image;
-      at-save = S .at-save;
-      records = ap₂ (λ (n : ℕ) (l : List ℕ). take n l) (b .bytes) (S .records) ∙ whole-log k fs;
-      before = S .before;
-      since = fit-whole k fs (S .since);
-    }
+  in-step : {bs fs : List Event} {image base log : List ℕ} → Boarded m bs fs image base log → InStep bs fs image base log
+  in-step (begun e) = record { present = sym e; at-save = sym e; records = refl; before = tt {0}; since = tt {0} }
+  in-step (handed {bs = bs} {fs = fs} {recs = recs} {ts = ts} B k) =
+      let S = in-step B in
+      let R = runs-on S k in
+      let L = logged-all (after (bs ++ fs) m) recs (calls-bytes k) in
+      let new : logged ts recs ≡ logOf (allEvents recs) = ap (λ (x : List Told). logged x recs) (R .answers) ∙ L .0 in
+      let h : after (allEvents recs) (after (bs ++ fs) m) ≡ after (bs ++ (fs ++ allEvents recs)) m =
+      sym (after-append (bs ++ fs) (allEvents recs) m) ∙ ap (λ (l : List Event). after l m) (append-assoc bs fs (allEvents recs)) in
+      record {
+        present = R .image ∙ ap encode h;
+        at-save = S .at-save;
+        records = ap₂ (λ (x y : List ℕ). x ++ y) (S .records) new ∙ sym (log-append fs (allEvents recs));
+        before = S .before;
+        since = fit-append fs (allEvents recs) (S .since) (L .1);
+      }
+  in-step (renewed {bs = bs} {fs = fs} B) =
+      let S = in-step B in
+      record {
+        present = S .present ∙ ap (λ (l : List Event). encode (after l m)) (sym (append-nil (bs ++ fs)));
+        at-save = S .present;
+        records = refl;
+        before = fit-append bs fs (S .before) (S .since);
+        since = tt {0};
+      }
+  in-step (booted {fs = fs} {k = k} B h g w r) =
+      let S = in-step B in
+      let b = comes-back S k h g w r in
+      record {
+        present = b .image;
+        at-save = S .at-save;
+        records = ap₂ (λ (n : ℕ) (l : List ℕ). take n l) (b .bytes) (S .records) ∙ whole-log k fs;
+        before = S .before;
+        since = fit-whole k fs (S .since);
+      }
 
 -- ---- the theorems
-module _ {bs fs : List Event} {image base log : List ℕ} (life : Boarded bs fs image base log) where
+module _ {m : Model} {bs fs : List Event} {image base log : List ℕ} (C : Consistent m) (life : Boarded m bs fs image base log) where
   -- Whatever is handed over, at any time of its life: images, codes, choices and numbers are those of the rules, for the history so far.
-  pub board-runs : {last : List ℕ} {recs : List (List ℕ)} {ts : List Told} → Calls image recs ts last → Ran (after (bs ++ fs) fresh) recs ts last
-  board-runs = stays-runs (stays life)
+  pub board-runs : {last : List ℕ} {recs : List (List ℕ)} {ts : List Told} → Calls image recs ts last → Ran (after (bs ++ fs) m) recs ts last
+  board-runs = runs-on C (in-step C life)
 
   -- Whenever the power fails: the image kept, and the log cut at any byte, bring back the image of the rules' state after the events before the image, and
   -- those of the log that are whole.
   pub board-back : (k : ℕ) → k ≤ length log → k ≤ limit → {out buffer : List ℕ} {t : Brought} → longestImage ≤ length out → Replays base (take k log) out (t, buffer)
-      → Restored bs (wholeIn k fs) k t buffer
-  board-back = stays-back (stays life)
+      → Restored m bs (wholeIn k fs) k t buffer
+  board-back = comes-back C (in-step C life)

@@ -13,11 +13,11 @@ use Rattle.nucleus.specs.declared.Reply.{Reply}
 
 -- From a state, these events get these replies, and the last state is this. (An event's word has 32 bits, as its type says.)
 pub data Chain : State → List Event → List Reply → State → Type 0 where
-  over : {s : State} → Chain s [] [] s
+  stays : {s : State} → Chain s [] [] s
   steps : {s t : State} {e : Event} {es : List Event} {r : Reply} {rs : List Reply} → Fits e → Answers s e r → Chain (r .state) es rs t → Chain s (e ∷ es) (r ∷ rs) t
 
 pub chain-fits : {s t : State} {es : List Event} {rs : List Reply} → Chain s es rs t → AllFit es
-chain-fits over = tt {0}
+chain-fits stays = tt {0}
 chain-fits (steps f a rest) = (f, chain-fits rest)
 
 -- a reply on the way is the rules'
@@ -27,5 +27,5 @@ reply-shows e S (refused n a) = absurd (n (S .consists))
 
 -- and so is the last state
 pub chain-shows : {s t : State} {es : List Event} {rs : List Reply} {m : Model} → Shows s m → Chain s es rs t → Shows t (after es m)
-chain-shows S over = S
+chain-shows S stays = S
 chain-shows S (steps {e = e} f a rest) = chain-shows (reply-shows e S a) rest

@@ -32,7 +32,7 @@ use Rattle.recovery.specs.Chain.{Chain, chain-fits, chain-shows}
 -- those recorded since.
 pub data Store : Type 0 where
   empty : Store
-  kept : (bs fs : List Event) (image log : List ℕ) (end : ℕ) → Store
+  stored : (bs fs : List Event) (image log : List ℕ) (end : ℕ) → Store
 
 -- The events that have happened, the state then, and what is kept.
 pub data Lived : List Event → State → Store → Type 0 where
@@ -40,15 +40,15 @@ pub data Lived : List Event → State → Store → Type 0 where
   born : {s : State} → Shows s fresh → Lived [] s empty
   -- events come that nobody records
   went : {s t : State} {es fs : List Event} {rs : List Reply} {k : Store} → Lived es s k → Chain s fs rs t → Lived (es ++ fs) t k
-  -- it is saved, and the log is empty from now on, whatever stands in its buffer
-  saved : {s : State} {es : List Event} {k : Store} {before buffer log : List ℕ} {n : ℕ} → Lived es s k → Saves s before 0 n buffer → Lived es s (kept es [] (take n buffer) log 0)
+  -- It is saved, and the log is empty from then on, whatever stands in its buffer. (Both at once: until the new image is kept, the old one and its log are.)
+  saved : {s : State} {es : List Event} {k : Store} {before buffer log : List ℕ} {n : ℕ} → Lived es s k → Saves s before 0 n buffer → Lived es s (stored es [] (take n buffer) log 0)
   -- events are recorded where the log ends, with nothing unrecorded before them
-  recorded : {s t : State} {es bs fs gs : List Event} {image log log′ : List ℕ} {q q′ : ℕ} → Lived es s (kept bs fs image log q) → es ≡ bs ++ fs → Session s log q gs t log′ q′
-      → Lived (es ++ gs) t (kept bs (fs ++ gs) image log′ q′)
+  recorded : {s t : State} {es bs fs gs : List Event} {image log log′ : List ℕ} {q q′ : ℕ} → Lived es s (stored bs fs image log q) → es ≡ bs ++ fs → Session s log q gs t log′ q′
+      → Lived (es ++ gs) t (stored bs (fs ++ gs) image log′ q′)
   -- The power fails, and the first k bytes of the log are left. The image is loaded, and they are replayed. The log ends behind the records that came back, in
   -- any buffer that has their bytes.
-  back : {s : State} {es bs fs : List Event} {image log buffer : List ℕ} {q k : ℕ} {l : Loaded} {r : Replayed} → Lived es s (kept bs fs image log q) → k ≤ q → Loads image l
-      → Replays (l .state) (take k log) r → take (r .bytes) buffer ≡ take (r .bytes) log → r .bytes ≤ length buffer → Lived (bs ++ wholeIn k fs) (r .state) (kept bs (wholeIn k fs) image buffer (r .bytes))
+  back : {s : State} {es bs fs : List Event} {image log buffer : List ℕ} {q k : ℕ} {l : Loaded} {r : Replayed} → Lived es s (stored bs fs image log q) → k ≤ q → Loads image l
+      → Replays (l .state) (take k log) r → take (r .bytes) buffer ≡ take (r .bytes) log → r .bytes ≤ length buffer → Lived (bs ++ wholeIn k fs) (r .state) (stored bs (wholeIn k fs) image buffer (r .bytes))
 
 -- ---- what comes back
 -- bs: the events before the save. whole: those recorded after it whose records are whole in the cut, of k bytes.
@@ -95,11 +95,11 @@ shows-after es fs S = record { consists = S .consists; seen = S .seen ∙ sym (a
 
 abbrev Keeps : List Event → Store → Type 0
 Keeps es empty = Unit {0}
-Keeps es (kept bs fs image log q) = Good es bs fs image log q
+Keeps es (stored bs fs image log q) = Good es bs fs image log q
 
 keeps-on : (es gs : List Event) (k : Store) → Keeps es k → Keeps (es ++ gs) k
 keeps-on es gs empty G = tt {0}
-keeps-on es gs (kept bs fs image log q) G = record {
+keeps-on es gs (stored bs fs image log q) G = record {
   is-image = G .is-image;
   fits = G .fits;
   holds = G .holds;
@@ -156,7 +156,7 @@ pub lived : {es : List Event} {s : State} {k : Store} → Lived es s k → Alive
 lived L = lives L .0
 
 -- ---- demand 3
-module _ {es bs fs : List Event} {s : State} {image log : List ℕ} {q : ℕ} (life : Lived es s (kept bs fs image log q)) where
+module _ {es bs fs : List Event} {s : State} {image log : List ℕ} {q : ℕ} (life : Lived es s (stored bs fs image log q)) where
   -- For every cut of the recorded bytes: exactly the rules' state after the events before the save and those later ones whose records are whole in the cut (what
   -- `wholeIn` leaves of them is said by `whole-front`: as many from the front as fit), with that many records and their bytes counted, and 0 between records or
   -- 12 inside one.

@@ -7,7 +7,7 @@ use mathlib.Core.Bool.{cond}
 use Prim.Native.Nat.{ℕ, _≤_}
 use native.Mathlib.Omega.{arith}
 use borrow.Author.Tests.{eqb-true, eqb-false, ne-eqb, le-ltb}
-use lib.Dec.{eqb, ltb}
+use lib.Dec.{eqb}
 use lib.ListN.{length, take, drop}
 use lib.Seq.{take-at}
 use Rattle.lists.specs.Laws.{by-test}
@@ -178,22 +178,3 @@ ran m C e (refused {rec = rec} {recs = recs} b h k z rest) =
       answers = ap₂ (λ (t : Told) (ts : List Told). t ∷ ts) (s .same) (r .answers ∙ ap (λ (x : Model). allSaid x recs) (sym q));
       consistent = rw (after-append (eventsOf rec) (allEvents recs) m, q) (r .consistent);
     }
-
--- ---- a refused call changes nothing, whatever the buffer
-acted-still : (m : Model) (o : Outcome) (out : List ℕ) → acted m o out .0 .code ≢ 0 → acted m o out .1 ≡ out
-unfolding acted
-acted-still m o out h =
-    by-test (eqb (o .code) 0)
-    (λ t. by-test (ltb (length out) (length (encode (o .state)))) (λ u. rw (t, u) refl) (λ u. absurd ((rw (t, u) at h) refl)))
-    (λ t. rw t refl)
-
-taken-still : (m : Model) (r : Read) (size : ℕ) (out : List ℕ) → taken m r size out .0 .code ≢ 0 → taken m r size out .1 ≡ out
-taken-still m (Record e n) size out h = by-test (eqb n size) (λ t. rw t (acted-still m (outcome e m) out (rw t at h))) (λ t. rw t refl)
-taken-still m AtEnd size out h = refl
-taken-still m CutShort size out h = refl
-taken-still m UnknownKind size out h = refl
-taken-still m PastEnd size out h = refl
-
-pub refused-still : {image rec out : List ℕ} {t : Told × List ℕ} → Boards image rec out t → t .0 .code ≢ 0 → t .1 ≡ out
-refused-still (unloaded c R g) z = ap (λ (x : Told × List ℕ). x .1) g
-refused-still {rec = rec} {out = out} (stepped m C e g) z = ap (λ (x : Told × List ℕ). x .1) g ∙ taken-still m (readAt rec 0) (length rec) out (rw g at z)

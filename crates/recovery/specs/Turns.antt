@@ -19,7 +19,7 @@ use Rattle.order.specs.TurnComes.{Queued, slices, Ends, Come, turn-comes}
 use Rattle.nucleus.specs.View.{view, Consists, held, refused}
 use Rattle.nucleus.specs.declared.State.{State}
 use Rattle.nucleus.specs.declared.Reply.{Reply}
-use Rattle.recovery.specs.Chain.{Chain, over, steps, chain-fits}
+use Rattle.recovery.specs.Chain.{Chain, stays, steps, chain-fits}
 
 -- The reply to the event behind i others is the turn of the thread n: it says to run n; or it is that of an end of n which is done, and nobody has its number
 -- now.
@@ -31,7 +31,7 @@ pub data Turn (n : ℕ) : ℕ → List Event → List Reply → Type 0 where
 -- what the rules say of an event is what its reply says
 turn-at : {s t : State} {es : List Event} {rs : List Reply} (n i : ℕ) → Consists s → Chain s es rs t → i < length es
     → Come n (Ends n (drop i es) (after (take i es) (view s))) (after (take (suc i) es) (view s)) → Turn n i es rs
-turn-at n i k over h c = absurd (omega arith)
+turn-at n i k stays h c = absurd (omega arith)
 turn-at n i k (steps f (refused x a) rest) h c = absurd (x k)
 turn-at n zero k (steps f (held l a) rest) h (inl c) = runs (a .choice ∙ c)
 turn-at n zero k (steps {es = es} {r = r} {rs = rs} f (held l a) rest) h (inr c) =

@@ -5,6 +5,7 @@ use super::day;
 use super::day::Counts;
 use super::day::Shift;
 use nucleus::State;
+use rules::Number;
 use rules::Place;
 
 // A number, and the text behind it.
@@ -92,18 +93,18 @@ fn waiting(s: State) {
 fn load(s: State, p: Place) {
     let t = s.thread(p);
     if t.standing == rules::SENDING {
-        driver(p, t.number.0, t.word);
+        driver(p, t.number, t.word);
         console::text(b"in the radio's inbox\n");
     }
     if t.standing == rules::AWAITING {
-        driver(p, t.number.0, t.word);
+        driver(p, t.number, t.word);
         console::text(b"taken by the radio and not answered yet\n");
     }
 }
 
-fn driver(p: Place, n: u8, word: u32) {
+fn driver(p: Place, n: Number, word: u32) {
     console::text(b"    place ");
     say(p.0 as u64, b", driver ");
-    say(n as u64, b": load ");
+    say(n.0 as u64, b": load ");
     say(word as u64, b", ");
 }
