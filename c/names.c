@@ -1,4 +1,4 @@
-/* examples/board.c, saying aloud when it renames the store and when it puts a folder on the medium. */
+/* examples/board.c, saying aloud when it puts a file or a folder on the medium, and when it renames the store. */
 #define _POSIX_C_SOURCE 200809L
 #include <fcntl.h>
 #include <stdio.h>
@@ -16,8 +16,10 @@ static int open_aloud(const char *name, int flags, ...) {
     return f;
 }
 
+/* Says how many bytes of a file have been written, since what is still in the program's own buffer is not synced. */
 static int fsync_aloud(int f) {
-    if (f == folder) printf("  folder %s\n", path);
+    if (f == folder) printf("  sync %s\n", path);
+    else printf("  sync %d bytes\n", (int)lseek(f, 0, SEEK_CUR));
     folder = -1;  /* another file may get its number */
     return fsync(f);
 }
