@@ -10,8 +10,9 @@
    an empty log needs no number: whether a build takes it is told by its bytes.
 
    WHAT YOU OWE
-   - A buffer is a pointer and a length. The pointer points to at least that many bytes. Any bytes may stand in them: an
-     image from a broken medium is refused, never trusted.
+   - A buffer is a pointer and a length. The pointer points to at least that many bytes. Any bytes may stand in them. Those
+     of an image are refused unless they are the image of a consistent state. Whether it is the image that you kept, or the
+     medium has made another of it, only a check of your own can tell: examples/board.c has one.
    - With length 0 nothing is read or written through the pointer, so it may be null. A result's pointer may not be null.
    - `out` and the results are written. None of them may overlap another, nor a buffer that is read: the new image cannot go
      over the old one. Buffers that are only read (image, record, log) may overlap.
