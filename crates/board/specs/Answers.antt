@@ -18,12 +18,12 @@ use Rattle.nucleus.specs.View.{view, Consists, Shows}
 use Rattle.nucleus.specs.Answers.{Meets}
 use Rattle.nucleus.specs.declared.State.{State}
 use Rattle.nucleus.specs.declared.Reply.{Reply}
-use Rattle.image.specs.Format.{encode}
-use Rattle.image.specs.Longest.{longestImage, longest}
-use Rattle.image.specs.Save.{Saves, inconsistent, short, saved}
-use Rattle.image.specs.Loads.{Loads}
-use Rattle.image.specs.Accepts.{refuses-of, accepted-of}
-use Rattle.image.specs.declared.Loaded.{Loaded}
+use Rattle.saving.specs.Format.{encode}
+use Rattle.saving.specs.Longest.{longestImage, longest}
+use Rattle.saving.specs.Save.{Saves, inconsistent, short, saved}
+use Rattle.loading.specs.Loads.{Loads}
+use Rattle.loading.specs.Accepts.{refuses-of, accepted-of}
+use Rattle.loading.specs.declared.Loaded.{Loaded}
 use Rattle.image.specs.Locates.{Locates, spotted, missing, unread as unseen}
 use Rattle.image.specs.Locating.{locate-within}
 use Rattle.journal.specs.Format.{readAt}

@@ -13,9 +13,9 @@ use Rattle.rules.specs.declared.Choice.the-variants.{Halt}
 use Rattle.journal.specs.Format.{readAt}
 use Rattle.journal.specs.declared.Read.{Read}
 use Rattle.journal.specs.declared.Read.the-variants.{Record, AtEnd, CutShort, UnknownKind, PastEnd}
-use Rattle.image.specs.Format.{encode}
-use Rattle.image.specs.Accepts.{refuses-not, refuses-one}
-use Rattle.image.specs.Injective.{encode-injective}
+use Rattle.saving.specs.Format.{encode}
+use Rattle.loading.specs.Accepts.{refuses-not, refuses-one}
+use Rattle.loading.specs.Injective.{encode-injective}
 use Rattle.board.specs.Promise.{declined, acted, taken, stepOn, Boards, unloaded, stepped, unplayed, replayOn, Replays, unread, played}
 use Rattle.board.specs.declared.Told.{Told}
 use Rattle.board.specs.declared.Brought.{Brought}

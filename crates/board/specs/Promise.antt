@@ -15,8 +15,8 @@ use Rattle.rules.specs.declared.Choice.the-variants.{Halt}
 use Rattle.journal.specs.Format.{readAt}
 use Rattle.journal.specs.declared.Read.{Read}
 use Rattle.journal.specs.declared.Read.the-variants.{Record, AtEnd, CutShort, UnknownKind, PastEnd}
-use Rattle.image.specs.Format.{encode}
-use Rattle.image.specs.Loads.{Refuses}
+use Rattle.saving.specs.Format.{encode}
+use Rattle.loading.specs.Loads.{Refuses}
 use Rattle.logbook.specs.Log.{limit, Parsed, recordsIn}
 use Rattle.board.specs.declared.Told.{Told}
 use Rattle.board.specs.declared.Brought.{Brought}

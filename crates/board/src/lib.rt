@@ -4,7 +4,7 @@ ghost use mathlib.Core.Path.{_≡_};
 ghost use Prim.Native.Nat.{_≤_};
 ghost use Rattle.rules.specs.Rules.{outcome};
 ghost use Rattle.nucleus.specs.View.{view, Consists};
-ghost use Rattle.image.specs.Longest.{longestImage};
+ghost use Rattle.saving.specs.Longest.{longestImage};
 ghost use Rattle.image.specs.Locates.{Locates};
 ghost use Rattle.board.specs.Promise.{declined, acted as actedOn, badCode, stepOn, Boards, unplayed, replayOn, Replays, freshOn};
 use image::Saved;

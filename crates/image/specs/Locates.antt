@@ -8,9 +8,9 @@ use Prim.Native.Nat.{ℕ, _+_, _≤_, _<_}
 use lib.ListN.{length, getD}
 use Rattle.rules.specs.Model.{Place, Model, thread, livesAt}
 use Rattle.rules.specs.Consistent.{Consistent}
-use Rattle.image.specs.Format.{livePlaces, bodyOf, bodies, firstBody, encode}
-use Rattle.image.specs.Entry.{entryAt}
-use Rattle.image.specs.Loads.{Refuses}
+use Rattle.saving.specs.Format.{livePlaces, bodyOf, bodies, firstBody, encode}
+use Rattle.loading.specs.Entry.{entryAt}
+use Rattle.loading.specs.Loads.{Refuses}
 
 -- the bytes are the image of m, and n is the number of the live place `place`, with the live places `before` in front of it: its body starts behind theirs
 pub record Spotted (s : List ℕ) (n offset len : ℕ) : Type 0 where

@@ -12,17 +12,17 @@ use Rattle.lists.specs.Laws.{is-head, is-right, distinct-fore, fore-one}
 use Rattle.rules.specs.Model.{Empty, Model, thread, livesAt, live}
 use Rattle.order.specs.Sound.{sound, small}
 use Rattle.order.specs.Places.{lives-at}
-use Rattle.image.specs.Format.{livePlaces, bodyOf, bodies}
-use Rattle.image.specs.Positions.{offset, live-in, live-distinct}
-use Rattle.image.specs.Reading.{Image}
-use Rattle.image.specs.Finds.{live-is, body, body-in, inbox-length}
-use Rattle.image.specs.Entry.{live-low, split, p-is, n-is, o-is, bodyAt}
-use Rattle.image.specs.Loads.{Loads}
-use Rattle.image.specs.Judges.{image-of}
-use Rattle.image.specs.Injective.{entry-of, encode-injective}
-use Rattle.image.specs.Accepts.{accepts, refuses-of, refuses-not, refuses-one}
+use Rattle.saving.specs.Format.{livePlaces, bodyOf, bodies}
+use Rattle.loading.specs.Positions.{offset, live-in, live-distinct}
+use Rattle.loading.specs.Reading.{Image}
+use Rattle.loading.specs.Finds.{live-is, body, body-in, inbox-length}
+use Rattle.loading.specs.Entry.{live-low, split, p-is, n-is, o-is, bodyAt}
+use Rattle.loading.specs.Loads.{Loads}
+use Rattle.loading.specs.Judges.{image-of}
+use Rattle.loading.specs.Injective.{entry-of, encode-injective}
+use Rattle.loading.specs.Accepts.{accepts, refuses-of, refuses-not, refuses-one}
 use Rattle.image.specs.Locates.{Spotted, Absent, Locates, spotted, missing, unread, Sought}
-use Rattle.image.specs.declared.Loaded.{Loaded}
+use Rattle.loading.specs.declared.Loaded.{Loaded}
 
 -- ---- the three ends
 

@@ -7,11 +7,11 @@ use native.Mathlib.Omega.{arith}
 use lib.ListN.{length, take, drop, length-take, length-drop}
 use Rattle.rules.specs.Model.{Empty, thread}
 use Rattle.order.specs.Places.{lives-at}
-use Rattle.image.specs.Format.{bodyOf}
-use Rattle.image.specs.Finds.{place-is, offset-is}
-use Rattle.image.specs.Entry.{bodyAt}
-use Rattle.image.specs.Injective.{encode-injective}
-use Rattle.image.specs.Accepts.{refuses-not}
+use Rattle.saving.specs.Format.{bodyOf}
+use Rattle.loading.specs.Finds.{place-is, offset-is}
+use Rattle.loading.specs.Entry.{bodyAt}
+use Rattle.loading.specs.Injective.{encode-injective}
+use Rattle.loading.specs.Accepts.{refuses-not}
 use Rattle.image.specs.Locates.{Spotted, Absent, Locates, spotted, missing, unread}
 use Rattle.image.specs.Locating.{spotted-image, spotted-lives, locate-body, locate-within, locate-one}
 use Rattle.image.specs.Sees.{Found, Sees, found, absent, refused, Lies}

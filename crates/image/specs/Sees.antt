@@ -7,9 +7,9 @@ use Prim.Native.Nat.{ℕ, _+_, _≤_}
 use lib.ListN.{length, take, drop, getD}
 use Rattle.rules.specs.Model.{Model, thread, livesAt}
 use Rattle.rules.specs.Consistent.{Consistent}
-use Rattle.image.specs.Format.{bodyOf, encode}
-use Rattle.image.specs.Entry.{entryAt, bodyAt}
-use Rattle.image.specs.Loads.{Foreign}
+use Rattle.saving.specs.Format.{bodyOf, encode}
+use Rattle.loading.specs.Entry.{entryAt, bodyAt}
+use Rattle.loading.specs.Loads.{Foreign}
 use Rattle.image.specs.Locates.{Absent, Locates}
 
 -- the bytes are the image of m, in which the number n lives at `place`; and the part is the body of that place, and stands where its entry says

@@ -2,11 +2,12 @@
 ghost use mathlib.Core.Path.{_≡_};
 ghost use Prim.Native.Nat.{_+_, _<_};
 ghost use lib.ListN.{getD};
-ghost use Rattle.image.specs.Entry.{bodyAt};
+ghost use Rattle.loading.specs.Entry.{bodyAt};
 ghost use Rattle.image.specs.Locates.{Locates, Sought};
 use super::Part;
-use super::bytes;
+use loading::bytes;
 use rules::Number;
+use saving::format;
 
 // Document 01's code for a number that is not live.
 const NOT_LIVE: u8 = 4;
@@ -15,11 +16,11 @@ const NOT_LIVE: u8 = 4;
 fn find(image: &[u8], n: Number) -> usize
     ensures { λ r. ⌜ Sought (now (image .entry)) (n .0) r ⌝ }
 {
-    let live = bytes::wide(bytes::at(image, bytes::LIVE));
+    let live = bytes::wide(bytes::at(image, format::LIVE_AT));
     let mut i = 0;
     while i < live {
-        let entry = bytes::HEAD + bytes::ENTRY * i;
-        if bytes::at(image, entry + bytes::NUMBER) == n.0 {
+        let entry = format::HEAD + format::ENTRY * i;
+        if bytes::at(image, entry + format::NUMBER_AT) == n.0 {
             return i;
         }
         i += 1;
@@ -32,13 +33,13 @@ fn body(image: &[u8], i: usize) -> Part
     requires { ⌜ i < 256 ⌝ }
     ensures { λ r. ⌜ (r .code ≡ 0) × (r .offset ≡ bodyAt (now (image .entry)) i) × (r .length ≡ 13 + getD (now (image .entry)) (r .offset + 12) 0) ⌝ }
 {
-    let entry = bytes::HEAD + bytes::ENTRY * i;
-    let from = bytes::two(image, entry + bytes::OFFSET);
-    let inbox = bytes::wide(bytes::at(image, from + bytes::INBOX_LENGTH));
+    let entry = format::HEAD + format::ENTRY * i;
+    let from = bytes::two(image, entry + format::OFFSET_AT);
+    let inbox = bytes::wide(bytes::at(image, from + format::INBOX_LENGTH_AT));
     Part {
         code: 0,
         offset: from,
-        length: bytes::INBOX + inbox,
+        length: format::BODY + inbox,
     }
 }
 
@@ -46,7 +47,7 @@ fn body(image: &[u8], i: usize) -> Part
 pub fn part_of(image: &[u8], n: Number) -> Part
     ensures { λ r. ⌜ Locates (now (image .entry)) (n .0) (r .code) (r .offset) (r .length) ⌝ }
 {
-    let loaded = super::load(image);
+    let loaded = loading::load(image);
     let code = loaded.code;
     if code != 0 {
         return Part {
@@ -56,7 +57,7 @@ pub fn part_of(image: &[u8], n: Number) -> Part
         };
     }
     let i = find(image, n);
-    if i >= bytes::wide(bytes::at(image, bytes::LIVE)) {
+    if i >= bytes::wide(bytes::at(image, format::LIVE_AT)) {
         return Part {
             code: NOT_LIVE,
             offset: 0,

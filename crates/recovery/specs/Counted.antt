@@ -7,8 +7,8 @@ use Rattle.rules.specs.Model.{allPlaces}
 use Rattle.rules.specs.Rules.{firstFree}
 use Rattle.rules.specs.Counted.{Seen, Case, found, cases}
 use Rattle.journal.specs.Format.{lengthOf, eventOf, readFrom, readAt}
-use Rattle.image.specs.Format.{encode}
-use Rattle.image.specs.Counted.{Counted as Pictured, state, images}
+use Rattle.saving.specs.Format.{encode}
+use Rattle.loading.specs.Counted.{Counted as Pictured, state, images}
 use Rattle.logbook.specs.Log.{parsed}
 use Rattle.logbook.specs.Counted.{Row, Counted as Logged, logs, found as replayed}
 

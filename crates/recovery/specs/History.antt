@@ -14,12 +14,12 @@ use Rattle.nucleus.specs.View.{view, Consists, Shows}
 use Rattle.nucleus.specs.Settled.{shows-one}
 use Rattle.nucleus.specs.declared.State.{State}
 use Rattle.nucleus.specs.declared.Reply.{Reply}
-use Rattle.image.specs.Format.{encode}
-use Rattle.image.specs.Save.{Saves}
-use Rattle.image.specs.Loads.{Loads}
-use Rattle.image.specs.Accepts.{accepts, loads-back}
-use Rattle.image.specs.RoundTrip.{front-image}
-use Rattle.image.specs.declared.Loaded.{Loaded}
+use Rattle.saving.specs.Format.{encode}
+use Rattle.saving.specs.Save.{Saves}
+use Rattle.loading.specs.Loads.{Loads}
+use Rattle.loading.specs.Accepts.{accepts, loads-back}
+use Rattle.loading.specs.RoundTrip.{front-image}
+use Rattle.loading.specs.declared.Loaded.{Loaded}
 use Rattle.logbook.specs.Log.{limit, Parsed, logOf}
 use Rattle.logbook.specs.Promise.{Came, Replays, inconsistent, too-long, came}
 use Rattle.logbook.specs.Cut.{Rest, none, half, wholeIn, cutCode, read-log, fit-append, fit-whole, whole-front}

@@ -23,10 +23,10 @@ use Rattle.journal.specs.Format.{readAt}
 use Rattle.journal.specs.Laws.{Bytes, read-whole}
 use Rattle.journal.specs.declared.Read.{Read}
 use Rattle.journal.specs.declared.Read.the-variants.{Record, AtEnd, CutShort, UnknownKind, PastEnd}
-use Rattle.image.specs.Format.{encode}
-use Rattle.image.specs.Longest.{longestImage, longest}
-use Rattle.image.specs.Accepts.{refuses-not}
-use Rattle.image.specs.Injective.{encode-injective}
+use Rattle.saving.specs.Format.{encode}
+use Rattle.saving.specs.Longest.{longestImage, longest}
+use Rattle.loading.specs.Accepts.{refuses-not}
+use Rattle.loading.specs.Injective.{encode-injective}
 use Rattle.logbook.specs.History.{after-append}
 use Rattle.board.specs.Promise.{declined, acted, badCode, taken, stepOn, Boards, unloaded, stepped}
 use Rattle.board.specs.declared.Told.{Told}

@@ -5,7 +5,7 @@ use native.Mathlib.Omega.{arith}
 use lib.ListN.{getD}
 use borrow.Author.Count.{below-more}
 use borrow.Author.Needs.{needs}
-use Rattle.image.specs.Entry.{entryAt}
+use Rattle.loading.specs.Entry.{entryAt}
 use Rattle.image.proofs.look.find.Statement.{statement}
 use Rattle.image.proofs.look.find.Tie as tie
 

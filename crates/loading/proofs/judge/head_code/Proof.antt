@@ -1,0 +1,28 @@
+-- `head_code` meets its contract, way by way. Assumes nothing.
+use borrow.Author.Needs.{needs}
+use mathlib.Core.Path.{sym, _∙_}
+use Rattle.loading.specs.Judges.{head-short, head-unknown, head-wrong, head-right}
+use Rattle.loading.proofs.judge.head_code.Statement.{statement}
+use Rattle.loading.proofs.judge.head_code.Tie as tie
+
+returns : tie.Need-returns
+returns c = head-short (c .before .before .args .image .now) (c .if1 .taken)
+
+at-requires : tie.Need-at-requires
+at-requires c κs = search needs
+
+returns-2 : tie.Need-returns-2
+returns-2 c = head-unknown (c .before .before .before .before .args .image .now) (c .before .before .if1 .left) (λ e. c .if2 .taken (c .before .at .ensures ∙ e))
+
+two-requires : tie.Need-two-requires
+two-requires c κs = search needs
+
+returns-3 : tie.Need-returns-3
+returns-3 c = head-wrong (c .before .before .before .before .before .before .args .image .now) (c .before .before .before .before .if1 .left) (sym (c .before .before .before .at .ensures) ∙ c .before .before .if2 .left) (λ e. c .if3 .taken (c .before .two .ensures .0 ∙ e))
+
+returns-4 : tie.Need-returns-4
+returns-4 c = head-right (c .before .before .before .before .before .before .args .image .now) (c .before .before .before .before .if1 .left) (sym (c .before .before .before .at .ensures) ∙ c .before .before .if2 .left) (sym (c .before .two .ensures .0) ∙ c .if3 .left)
+
+pub head-code-spec : {M : Type 1} → statement M
+head-code-spec =
+    tie.close (tie.spec returns at-requires returns-2 two-requires returns-3 returns-4)

@@ -1,0 +1,53 @@
+-- `candidate` meets its contract: the queues and all entries have been read. Assumes nothing.
+use borrow.Author.Needs.{needs}
+use mathlib.Core.Path.{_∙_}
+use Rattle.loading.specs.Enters.{candidate-shows}
+use Rattle.loading.proofs.read.candidate.Statement.{statement}
+use Rattle.loading.proofs.read.candidate.Tie as tie
+
+clear-requires : tie.Need-clear-requires
+clear-requires c κs = search needs
+
+fresh-requires : tie.Need-fresh-requires
+fresh-requires c κs = search needs
+
+queues-requires : tie.Need-queues-requires
+queues-requires c κs = search needs
+
+at-requires : tie.Need-at-requires
+at-requires c κs = search needs
+
+wide-requires : tie.Need-wide-requires
+wide-requires c κs = search needs
+
+entries-requires : tie.Need-entries-requires
+entries-requires c κs = search needs
+
+filling-requires : tie.Need-filling-requires
+filling-requires c κs = search needs
+
+at-requires-2 : tie.Need-at-requires-2
+at-requires-2 c κs = search needs
+
+at-requires-3 : tie.Need-at-requires-3
+at-requires-3 c κs = search needs
+
+returns : tie.Need-returns
+returns c =
+    candidate-shows (c .before .before .before .before .before .before .before .before .before .before .before .before .before .clear .ensures) (c .before .before .before .before .before .before .before .before .before .before .before .before .fresh .ensures) (c .before .before .before .before .before .before .before .before .before .before .queues .ensures) (c .before .before .before .before .entries .ensures)
+    (c .before .before .before .before .before .before .before .before .wide .ensures .0 ∙ c .before .before .before .before .before .before .before .before .before .at .ensures) (c .before .before .filling .ensures) (c .before .at2 .ensures) (c .at3 .ensures)
+
+pub candidate-spec : {M : Type 1} → statement M
+candidate-spec =
+    tie.close
+    (tie.spec
+    clear-requires
+    fresh-requires
+    queues-requires
+    at-requires
+    wide-requires
+    entries-requires
+    filling-requires
+    at-requires-2
+    at-requires-3
+    returns)

@@ -1,0 +1,82 @@
+-- `enter` meets its contract: an entry that names no place is skipped, and of any other the body is read. Assumes nothing.
+use borrow.Author.Needs.{needs}
+use mathlib.Core.Path.{_∙_}
+use native.Mathlib.Omega.{arith}
+use Rattle.loading.specs.Enters.{entered-no, entered-one}
+use Rattle.loading.proofs.read.enter.Statement.{statement}
+use Rattle.loading.proofs.read.enter.Tie as tie
+
+mul-entry : tie.Need-mul-entry
+mul-entry c = search needs
+
+add-entry : tie.Need-add-entry
+add-entry c = search needs
+
+at-requires : tie.Need-at-requires
+at-requires c κs = search needs
+
+wide-requires : tie.Need-wide-requires
+wide-requires c κs = search needs
+
+returns : tie.Need-returns
+returns c = entered-no (c .before .before .before .before .pre .1) (omega arith)
+
+add-two : tie.Need-add-two
+add-two c = search needs
+
+two-requires : tie.Need-two-requires
+two-requires c κs = search needs
+
+add-at : tie.Need-add-at
+add-at c = search needs
+
+at-requires-2 : tie.Need-at-requires-2
+at-requires-2 c κs = search needs
+
+seat-requires : tie.Need-seat-requires
+seat-requires c κs = search needs
+
+add-at-2 : tie.Need-add-at-2
+add-at-2 c = search needs
+
+at-requires-3 : tie.Need-at-requires-3
+at-requires-3 c κs = search needs
+
+wide-requires-2 : tie.Need-wide-requires-2
+wide-requires-2 c κs = search needs
+
+add-enqueue : tie.Need-add-enqueue
+add-enqueue c = search needs
+
+add-enqueue-2 : tie.Need-add-enqueue-2
+add-enqueue-2 c = search needs
+
+enqueue-requires : tie.Need-enqueue-requires
+enqueue-requires c κs = search needs
+
+returns-2 : tie.Need-returns-2
+returns-2 c =
+    entered-one (c .before .before .before .before .seat .ensures) (c .enqueue .ensures) (c .before .before .before .before .before .before .before .before .before .before .before .at .ensures) (c .before .before .before .before .before .before .before .at2 .ensures) (c .before .before .before .before .before .before .before .before .two .ensures .0)
+    (c .before .before .wide2 .ensures .0 ∙ c .before .before .before .at3 .ensures)
+
+pub enter-spec : {M : Type 1} → statement M
+enter-spec =
+    tie.close
+    (tie.spec
+    mul-entry
+    add-entry
+    at-requires
+    wide-requires
+    returns
+    add-two
+    two-requires
+    add-at
+    at-requires-2
+    seat-requires
+    add-at-2
+    at-requires-3
+    wide-requires-2
+    add-enqueue
+    add-enqueue-2
+    enqueue-requires
+    returns-2)

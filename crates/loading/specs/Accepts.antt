@@ -1,0 +1,103 @@
+-- What the promise of load comes to: 0 for the images of consistent states and for nothing else, the state that was saved, and one answer for any bytes.
+use mathlib.Core.Path.{_≡_, sym, _∙_}
+use mathlib.Core.Logic.{_≢_}
+use mathlib.Core.List.{List}
+use lib.Dec.{eqb, ltb}
+use lib.ListN.{length, getD}
+use Rattle.lists.specs.Laws.{by-test}
+use Rattle.lists.specs.Bytes.{twoAt}
+use Prim.Native.Nat.{ℕ}
+use native.Mathlib.Omega.{arith}
+use Rattle.rules.specs.Model.{Model}
+use Rattle.rules.specs.Consistent.{Consistent}
+use Rattle.nucleus.specs.View.{view, Shows}
+use Rattle.nucleus.specs.Settled.{settled, shows-one}
+use Rattle.saving.specs.Format.{edition, headLength, encode}
+use Rattle.loading.specs.Loads.{headCode, Foreign, Refused, Accepted, Judged, foreign, accepted, Loads, bad-head, good-head, Refuses, by-head, by-whole}
+use Rattle.loading.specs.Judges.{image-of, head-image}
+use Rattle.loading.specs.Injective.{encode-injective}
+use Rattle.loading.specs.declared.Loaded.{Loaded}
+
+-- the bytes are the image of some consistent model
+abbrev pub IsImage : List ℕ → Type 0
+IsImage s = (m : Model) × Consistent m × (encode m ≡ s)
+
+-- load gives 0 exactly for these
+pub accepts : {s : List ℕ} {r : Loaded} → Loads s r → (r .code ≡ 0 → IsImage s) × (IsImage s → r .code ≡ 0)
+accepts (bad-head n R) = (λ z. absurd (n (sym (R .told) ∙ z)), λ w. absurd (n (head-image (image-of (w .1) (w .2)))))
+accepts (good-head h (foreign f R)) = (λ z. let t = R .told in absurd (omega arith), λ w. absurd (f (w .0) (w .1) (w .2)))
+accepts {r = r} (good-head h (accepted A)) = (λ z. (view (r .state), A .consists .consistent, A .image), λ w. A .told)
+
+-- and 10 exactly where neither 8 nor 9 is given and the bytes are the image of no consistent model
+head-codes : (s : List ℕ) → headCode s ≡ 10 → ⊥
+head-codes s e =
+    by-test (ltb (length s) headLength)
+    (λ t. let z : _≡_ {A = ℕ} 8 10 = rw t at e in omega arith)
+    (λ t. by-test (eqb (getD s 0 0) edition)
+    (λ u. by-test (eqb (twoAt s 6) (length s)) (λ v. let z : _≡_ {A = ℕ} 0 10 = rw (t, u, v) at e in omega arith) (λ v. let z : _≡_ {A = ℕ} 8 10 = rw (t, u, v) at e in omega arith))
+    (λ u. let z : _≡_ {A = ℕ} 9 10 = rw (t, u) at e in omega arith))
+
+pub refuses : {s : List ℕ} {r : Loaded} → Loads s r → (r .code ≡ 10 → (headCode s ≡ 0) × Foreign s) × (headCode s ≡ 0 → Foreign s → r .code ≡ 10)
+refuses {s} (bad-head n R) = (λ z. absurd (head-codes s (sym (R .told) ∙ z)), λ h f. absurd (n h))
+refuses (good-head h (foreign f R)) = (λ z. (h, f), λ g k. R .told)
+refuses {r = r} (good-head h (accepted A)) = (λ z. let t = A .told in absurd (omega arith), λ g k. absurd (k (view (r .state)) (A .consists .consistent) (A .image)))
+
+-- code 0 says that the bytes are the image of the state given
+pub accepted-of : {s : List ℕ} {r : Loaded} → Loads s r → r .code ≡ 0 → Accepted s r
+accepted-of (bad-head n R) z = absurd (n (sym (R .told) ∙ z))
+accepted-of (good-head h (foreign f R)) z = let t = R .told in absurd (omega arith)
+accepted-of (good-head h (accepted A)) z = A
+
+-- any other code than 0 is a refusal, ..
+pub refuses-of : {s : List ℕ} {r : Loaded} → Loads s r → r .code ≢ 0 → Refuses s (r .code)
+refuses-of (bad-head n R) k = by-head n (R .told)
+refuses-of (good-head h (foreign f R)) k = by-whole h f (R .told)
+refuses-of (good-head h (accepted A)) k = absurd (k (A .told))
+
+-- .. no image of a consistent model is refused, ..
+pub refuses-not : {s : List ℕ} {c : ℕ} → Refuses s c → IsImage s → ⊥
+refuses-not (by-head n e) w = n (head-image (image-of (w .1) (w .2)))
+refuses-not (by-whole h f e) w = f (w .0) (w .1) (w .2)
+
+-- .. and bytes are refused with one code
+pub refuses-one : {s : List ℕ} {c d : ℕ} → Refuses s c → Refuses s d → c ≡ d
+refuses-one (by-head n e) (by-head k g) = e ∙ sym g
+refuses-one (by-head n e) (by-whole h f g) = absurd (n h)
+refuses-one (by-whole h f e) (by-head k g) = absurd (k h)
+refuses-one (by-whole h f e) (by-whole j k g) = e ∙ sym g
+
+-- what was saved is loaded
+pub loads-back : {s : List ℕ} {r : Loaded} (m : Model) → Consistent m → encode m ≡ s → Loads s r → Shows (r .state) m
+loads-back m C e (bad-head n R) = absurd (n (head-image (image-of C e)))
+loads-back m C e (good-head h (foreign f R)) = absurd (f m C e)
+loads-back {r = r} m C e (good-head h (accepted A)) = record { consists = A .consists; seen = encode-injective (view (r .state)) m (A .consists .consistent) C (A .image ∙ sym e) }
+
+-- ---- one answer
+
+loaded-is : {r t : Loaded} → r .code ≡ t .code → r .state ≡ t .state → r ≡ t
+loaded-is e f = λ i. record { code = e i; state = f i }
+
+refused-one : {c : ℕ} {r t : Loaded} → Refused c r → Refused c t → r ≡ t
+refused-one R T = loaded-is (R .told ∙ sym (T .told)) (shows-one (R .state) (T .state))
+
+accepted-one : {s : List ℕ} {r t : Loaded} → Accepted s r → Accepted s t → r ≡ t
+accepted-one {s} {r} {t} A B =
+    loaded-is (A .told ∙ sym (B .told))
+    (settled (r .state) (t .state) (A .consists) (B .consists)
+    (encode-injective (view (r .state)) (view (t .state)) (A .consists .consistent) (B .consists .consistent) (A .image ∙ sym (B .image))))
+
+never-both : {G : Type 0} {s : List ℕ} {r : Loaded} → Foreign s → Accepted s r → G
+never-both {r = r} f A = absurd (f (view (r .state)) (A .consists .consistent) (A .image))
+
+judged-one : {s : List ℕ} {r t : Loaded} → Judged s r → Judged s t → r ≡ t
+judged-one (foreign f R) (foreign g T) = refused-one R T
+judged-one (foreign f R) (accepted B) = never-both f B
+judged-one (accepted A) (foreign g T) = never-both g A
+judged-one (accepted A) (accepted B) = accepted-one A B
+
+-- two answers that keep the promise are one, states included
+pub load-one : {s : List ℕ} {r t : Loaded} → Loads s r → Loads s t → r ≡ t
+load-one (bad-head n R) (bad-head k T) = refused-one R T
+load-one (bad-head n R) (good-head g K) = absurd (n g)
+load-one (good-head h J) (bad-head k T) = absurd (k h)
+load-one (good-head h J) (good-head g K) = judged-one J K

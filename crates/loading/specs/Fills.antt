@@ -1,0 +1,109 @@
+-- How far the reading has come: nothing has been read, one place more, all of them. Assumes nothing.
+use mathlib.Core.Path.{_≡_, refl, sym, ap, _∙_}
+use mathlib.Core.List.{List, [], _∷_, _++_}
+use mathlib.Core.Bool.{true, false}
+use Prim.Native.Nat.{ℕ, zero, suc, _≤_, _<_}
+use native.Mathlib.Omega.{arith}
+use lib.Dec.{eqb}
+use borrow.Author.Tests.{eq-eqb, ne-eqb, eqb-true, eqb-false, not-false}
+use Rattle.lists.specs.Lists.{count}
+use Rattle.lists.specs.Laws.{by-test, among-last}
+use Rattle.lists.specs.Counts.{count-self}
+use Rattle.lists.specs.Tables.{tab-ext, tab-of}
+use Rattle.lines.specs.Lines.{lineOf, Clear}
+use Rattle.rules.specs.Values.{nobody}
+use Rattle.rules.specs.Model.{places, lineCount, Empty, Thread, vacant, Model, inbox, thread, line, livesAt}
+use Rattle.rules.specs.Consistent.{Consistent}
+use Rattle.order.specs.Sound.{sound, sending, sent}
+use Rattle.table.specs.Cells.{threadOf, modelOf}
+use Rattle.table.specs.Clean.{Sized, Emptied}
+use Rattle.table.specs.Stores.{Stood, Told, Named, Wrote, wrote-then, named, stood, heard}
+use Rattle.saving.specs.Format.{livePlaces}
+use Rattle.loading.specs.Positions.{live-in}
+use Rattle.loading.specs.Reading.{threadIn, Filed, opened, Seats, Upto}
+
+-- ---- nothing
+
+pub filed-none : (m : Model) {l : List ℕ} → Clear places lineCount l → Filed m (λ q. false) l
+filed-none m k = record { tidy = k .tidy; lines = k .empty }
+
+pub seats-none : (m : Model) {b w : List ℕ} → Emptied b w places → Seats m [] b w
+seats-none m k = record { sized = k .sized; threads = k .clean }
+
+-- ---- one place more
+
+pub opened-here : (p : ℕ) (qs : List ℕ) → opened (qs ++ (p ∷ [])) (inbox p) ≡ true
+opened-here p qs = among-last p p qs ∙ rw (eq-eqb p p refl)
+
+pub opened-there : (p : ℕ) (qs : List ℕ) (r : ℕ) → (r ≡ inbox p → ⊥) → opened (qs ++ (p ∷ [])) r ≡ opened qs r
+opened-there p qs zero n = refl
+opened-there p qs (suc zero) n = refl
+opened-there p qs (suc (suc r)) n = among-last r p qs ∙ (let z : p ≡ r → ⊥ = λ e. n (ap inbox (sym e)) in rw (ne-eqb p r z))
+
+pub seats-more : {m : Model} {qs b w b′ w′ : List ℕ} {p : ℕ} {t : Thread} → Seats m qs b w → Wrote b w p (λ _. t) b′ w′ → t ≡ thread m p → Seats m (qs ++ (p ∷ [])) b′ w′
+seats-more {m} {qs} {p = p} S W e = record {
+  sized = record { blocks = W .blocks; words = W .words };
+  threads = λ r h. by-test (eqb p r)
+      (λ y. let z : p ≡ r = eqb-true p r y in rw (among-last r p qs, y) (rw (← z) (W .here ∙ e)))
+      (λ y. let z = eqb-false p r y in rw (among-last r p qs, y) (W .there r h (λ u. z (sym u)) ∙ S .threads r h));
+}
+
+-- ---- all of them
+
+module _ {m : Model} (C : Consistent m) where
+  -- nobody sends to an empty place
+  pub no-inbox : (p : ℕ) → thread m p .standing ≡ Empty → line m (inbox p) ≡ []
+  no-inbox p e = go (line m (inbox p)) refl
+    where
+      go : (xs : List ℕ) → line m (inbox p) ≡ xs → line m (inbox p) ≡ []
+      go [] z = z
+      go (x ∷ xs) z =
+          let S = sound m C in
+          let k = count-self x xs in
+          let c : 1 ≤ count x (line m (inbox p)) = rw z (omega arith) in
+          let st = sending m S p x c in
+          let sv = C .served x (omega arith) (omega arith) in
+          let nu = C .numbers (sv .0) (sv .1) in
+          let em : thread m p .number ≡ nobody = ap (λ (t : Thread). t .number) (C .clean p e) in
+          let se = sent m S p x c in
+          absurd (omega (arith, sv .2))
+
+  pub dead : (p : ℕ) → livesAt m p ≡ false → thread m p .standing ≡ Empty
+  dead p h = eqb-true (thread m p .standing) Empty (not-false (eqb (thread m p .standing) Empty) h)
+
+  module _ {b w l : List ℕ} (U : Upto m (livePlaces m) b w l) where
+    threads-all : (p : ℕ) → p < places → threadOf b w p ≡ thread m p
+    threads-all p h =
+        U .seats .threads p h ∙ rw (live-in m p h) (by-test (livesAt m p)
+        (λ t. rw t)
+        (λ t. rw t (sym (C .clean p (dead p t)))))
+
+    lines-all : (q : ℕ) → q < lineCount → lineOf places l q ≡ line m q
+    lines-all zero h = U .filed .lines zero h
+    lines-all (suc zero) h = U .filed .lines (suc zero) h
+    lines-all (suc (suc p)) h =
+        U .filed .lines (suc (suc p)) h ∙ rw (live-in m p (omega arith)) (by-test (livesAt m p)
+        (λ t. rw t)
+        (λ t. rw t (sym (no-inbox p (dead p t)))))
+
+    pub all-read : modelOf (m .last) (m .running) b w l ≡ m
+    all-read =
+        let et = tab-ext places (threadOf b w) (thread m) threads-all ∙ tab-of vacant places (m .threads) (C .threads) in
+        let el = tab-ext lineCount (lineOf places l) (line m) lines-all ∙ tab-of [] lineCount (m .lines) (C .lines) in
+        λ i. record { last = m .last; running = m .running; threads = et i; lines = el i }
+
+-- ---- what the stores of one thread make of its place
+
+module _ {b w b₁ b₂ w₂ b₃ w₃ : List ℕ} {p n st pa x co wh y : ℕ} (k : Sized b w) (h : p < places) where
+  stored : Named b p n b₁ → Stood b₁ w p st pa x b₂ w₂ → Told b₂ w₂ p co wh y b₃ w₃
+      → Wrote b w p (λ _. record { number = n; standing = st; partner = pa; word = x; code = co; who = wh; answer = y }) b₃ w₃
+  stored e s t =
+      let u = named (k .blocks) (k .words) h e in
+      let v = stood (u .blocks) (u .words) h s in
+      wrote-then u (wrote-then v (heard (v .blocks) (v .words) h t))
+
+  -- read from the bytes
+  pub seated : (s : List ℕ) (o : ℕ) → Named b p n b₁ → Stood b₁ w p st pa x b₂ w₂ → Told b₂ w₂ p co wh y b₃ w₃
+      → record { number = n; standing = st; partner = pa; word = x; code = co; who = wh; answer = y } ≡ threadIn s n o
+      → Wrote b w p (λ _. threadIn s n o) b₃ w₃
+  seated s o e u t z = let W = stored e u t in record { blocks = W .blocks; words = W .words; here = W .here ∙ z; there = W .there }

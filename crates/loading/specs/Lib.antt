@@ -1,0 +1,13 @@
+pub mod Positions
+pub mod Reading
+pub mod Finds
+pub mod Entry
+pub mod Joins
+pub mod Fills
+pub mod Enters
+pub mod Loads
+pub mod Judges
+pub mod Injective
+pub mod Accepts
+pub mod RoundTrip
+pub mod Counted

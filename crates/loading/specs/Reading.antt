@@ -1,0 +1,80 @@
+-- How an image is read into a candidate without trust: what the inner functions of load tell one another. Nothing is known of the bytes; so whatever is said of
+-- what was read is said for every model m of which the bytes may be the image.
+use mathlib.Core.Path.{_≡_}
+use mathlib.Core.List.{List, [], _++_}
+use mathlib.Core.Bool.{Bool, true, cond}
+use Prim.Native.Nat.{ℕ, zero, suc, _+_, _^_, _<_}
+use lib.ListN.{length, take, drop, getD}
+use Rattle.lists.specs.Lists.{among, Distinct}
+use Rattle.lists.specs.Bytes.{wordAt}
+use Rattle.lines.specs.Lines.{lineOf, Loose, Tidy, Turned, Clear}
+use Rattle.rules.specs.Model.{places, lineCount, Thread, vacant, Model, thread, line, live}
+use Rattle.rules.specs.Consistent.{Consistent}
+use Rattle.table.specs.Cells.{threadOf}
+use Rattle.table.specs.Clean.{Sized}
+use Rattle.saving.specs.Format.{livePlaces, encode}
+
+-- the bytes s are the image of the consistent m, and its offsets fit into two bytes
+pub record Image (s : List ℕ) (m : Model) : Type 0 where
+  pub consistent : Consistent m
+  pub bytes : s ≡ encode m
+  pub short : length s < 2 ^ 16
+
+-- ---- places that go into a line
+
+-- they can join the lines of l: different places that stand in none
+pub record Free (l xs : List ℕ) : Type 0 where
+  pub distinct : Distinct xs
+  pub low : (x : ℕ) → among x xs ≡ true → x < places
+  pub loose : (x : ℕ) → among x xs ≡ true → Loose lineCount (lineOf places l) x
+
+-- of the n places that the bytes have from `from` on the first i have joined line q, if they could
+pub record Joined (s : List ℕ) (from n q i : ℕ) (l l′ : List ℕ) : Type 0 where
+  pub turned : (xs : List ℕ) → take n (drop from s) ≡ xs → length xs ≡ n → Tidy places lineCount l → Free l xs
+      → Turned places lineCount l l′ q (lineOf places l q ++ take i xs)
+
+-- ---- a thread
+
+-- the thread with the number n whose body starts at o
+abbrev pub threadIn : List ℕ → ℕ → ℕ → Thread
+threadIn s n o = record {
+  number = n;
+  standing = getD s o 0;
+  partner = getD s (o + 1) 0;
+  word = wordAt s (o + 2);
+  code = getD s (o + 6) 0;
+  who = getD s (o + 7) 0;
+  answer = wordAt s (o + 8);
+}
+
+-- ---- how far the reading has come
+
+-- the lines of which f holds are those of m, and the others are still empty
+pub record Filed (m : Model) (f : ℕ → Bool) (l : List ℕ) : Type 0 where
+  pub tidy : Tidy places lineCount l
+  pub lines : (q : ℕ) → q < lineCount → lineOf places l q ≡ cond (f q) (line m q) []
+
+-- ready, clock, and the inboxes of the places ps
+abbrev pub opened : List ℕ → ℕ → Bool
+opened ps zero = true
+opened ps (suc zero) = true
+opened ps (suc (suc p)) = among p ps
+
+-- the threads at the places ps are those of m, and the other places are still empty
+pub record Seats (m : Model) (ps b w : List ℕ) : Type 0 where
+  pub sized : Sized b w
+  pub threads : (p : ℕ) → p < places → threadOf b w p ≡ cond (among p ps) (thread m p) vacant
+
+-- the places ps have been read
+pub record Upto (m : Model) (ps b w l : List ℕ) : Type 0 where
+  pub seats : Seats m ps b w
+  pub filed : Filed m (opened ps) l
+
+-- ready and clock have been read
+pub record Queued (s l l′ : List ℕ) : Type 0 where
+  pub filed : (m : Model) → Image s m → Clear places lineCount l → Filed m (opened []) l′
+
+-- the entries of the contents from i to k have been read
+pub record Entered (s : List ℕ) (i k : ℕ) (b w l b′ w′ l′ : List ℕ) : Type 0 where
+  pub sized : Sized b′ w′
+  pub reads : (m : Model) → Image s m → k < suc (live m) → Upto m (take i (livePlaces m)) b w l → Upto m (take k (livePlaces m)) b′ w′ l′

@@ -1,0 +1,24 @@
+// Loading: the state of which any bytes are the image, or the code of why there is none.
+ghost use Rattle.loading.specs.Loads.{Loads};
+use nucleus::State;
+
+pub mod bytes;
+mod judge;
+mod read;
+
+// What load answers: document 01's code, and the state.
+pub struct Loaded {
+    pub code: u8,
+    pub state: State,
+}
+
+// The state of which the bytes are the image. Any bytes may come.
+pub fn load(image: &[u8]) -> Loaded
+    ensures { λ r. ⌜ Loads (now (image .entry)) r ⌝ }
+{
+    let code = judge::head_code(image);
+    if code != 0 {
+        return judge::refuse(code);
+    }
+    judge::judge(image)
+}

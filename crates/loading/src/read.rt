@@ -1,0 +1,107 @@
+// Reading: a candidate is made of any bytes, and no byte is trusted. No rule of the format is tested here, for what is read of bytes that are no image
+// does not matter: load finds out.
+ghost use Prim.Native.Nat.{_+_, _*_, _^_, _<_};
+ghost use Rattle.table.specs.Clean.{Sized};
+ghost use Rattle.table.specs.Stores.{Wrote};
+ghost use Rattle.rules.specs.Model.{places, lineCount, Model};
+ghost use Rattle.nucleus.specs.View.{Shows};
+ghost use Rattle.loading.specs.Reading.{Image, Joined, threadIn, Queued, Entered};
+use super::bytes;
+use lines::Links;
+use nucleus::State;
+use rules::Number;
+use rules::Place;
+use saving::format;
+use table::Blocks;
+use table::Words;
+
+// The places at image[from .. from + count] join line q, if they can.
+fn enqueue(image: &[u8], from: usize, count: usize, q: u8, l: &mut Links)
+    requires { ⌜ (q < lineCount) × (from + count < 2 ^ 32) ⌝ }
+    ensures { λ r. ⌜ Joined (now (image .entry)) from count q count (now (l .entry)) (now (l .exit)) ⌝ }
+{
+    let mut i = 0;
+    while i < count {
+        lines::hang(l, q, bytes::at(image, from + i));
+        i += 1;
+    }
+}
+
+// The thread with the number n whose body starts at o comes to the place p.
+fn seat(image: &[u8], o: usize, p: Place, n: Number, b: &mut Blocks, w: &mut Words)
+    requires { ⌜ (o < 2 ^ 16) × (p .0 < places) × Sized (now b) (now w) ⌝ }
+    ensures { λ r. ⌜ Wrote (now (b .entry)) (now (w .entry)) (p .0) (λ t. threadIn (now (image .entry)) (n .0) o) (now (b .exit)) (now (w .exit)) ⌝ }
+{
+    table::name(b, p, n);
+    let partner = Number(bytes::at(image, o + format::PARTNER_AT));
+    let word = bytes::word(image, o + format::WORD_AT);
+    table::stand(b, w, p, bytes::at(image, o), partner, word);
+    let who = Number(bytes::at(image, o + format::WHO_AT));
+    let answer = bytes::word(image, o + format::ANSWER_AT);
+    table::tell(b, w, p, bytes::at(image, o + format::CODE_AT), who, answer);
+}
+
+// Entry i of the contents is read, with the body that it names.
+fn enter(image: &[u8], i: usize, b: &mut Blocks, w: &mut Words, l: &mut Links)
+    requires { ⌜ (i < 2 ^ 16) × Sized (now b) (now w) ⌝ }
+    ensures { λ r. ⌜ Entered (now (image .entry)) i (i + 1) (now (b .entry)) (now (w .entry)) (now (l .entry)) (now (b .exit)) (now (w .exit)) (now (l .exit)) ⌝ }
+{
+    let entry = format::HEAD + format::ENTRY * i;
+    let p = bytes::at(image, entry);
+    if bytes::wide(p) >= lines::PLACES {
+        return;
+    }
+    let o = bytes::two(image, entry + format::OFFSET_AT);
+    let n = Number(bytes::at(image, entry + format::NUMBER_AT));
+    seat(image, o, Place(p), n, b, w);
+    let count = bytes::wide(bytes::at(image, o + format::INBOX_LENGTH_AT));
+    enqueue(image, o + format::BODY, count, table::INBOX_LINES + p, l);
+}
+
+// Every entry is read.
+fn entries(image: &[u8], n: usize, b: &mut Blocks, w: &mut Words, l: &mut Links)
+    requires { ⌜ (n < 256) × Sized (now b) (now w) ⌝ }
+    ensures { λ r. ⌜ Entered (now (image .entry)) 0 n (now (b .entry)) (now (w .entry)) (now (l .entry)) (now (b .exit)) (now (w .exit)) (now (l .exit)) ⌝ }
+{
+    let mut i = 0;
+    while i < n {
+        enter(image, i, b, w, l);
+        i += 1;
+    }
+}
+
+// Ready and clock are read.
+fn queues(image: &[u8], l: &mut Links)
+    ensures { λ r. ⌜ Queued (now (image .entry)) (now (l .entry)) (now (l .exit)) ⌝ }
+{
+    let live = bytes::wide(bytes::at(image, format::LIVE_AT));
+    let ready = bytes::wide(bytes::at(image, format::READY_AT));
+    let clock = bytes::wide(bytes::at(image, format::CLOCK_AT));
+    let from = format::HEAD + format::ENTRY * live;
+    enqueue(image, from, ready, table::READY_LINE, l);
+    enqueue(image, from + ready, clock, table::CLOCK_LINE, l);
+}
+
+// The state of which the bytes may be the image. If they are the image of any, it is this one's.
+pub fn candidate(image: &[u8]) -> State
+    ensures { λ r. ⌜ ((m : Model) → Image (now (image .entry)) m → Shows r m) ⌝ }
+{
+    let mut b = [0u8; table::BYTES];
+    let mut w = [0u32; table::WORDS];
+    table::clear(&mut b, &mut w);
+    let mut l = lines::fresh();
+    queues(image, &mut l);
+    let n = bytes::wide(bytes::at(image, format::LIVE_AT));
+    entries(image, n, &mut b, &mut w, &mut l);
+    let filled = audit::filling(&b);
+    let last = bytes::at(image, format::LAST_AT);
+    let running = bytes::at(image, format::RUNNING_AT);
+    State {
+        filled: filled,
+        last: Number(last),
+        running: Place(running),
+        blocks: b,
+        words: w,
+        lines: l,
+    }
+}

@@ -1,0 +1,40 @@
+-- `put_body` meets its contract: nothing for an empty place; else the thread, and behind it the inbox.
+use borrow.Author.Needs.{needs}
+use Rattle.saving.specs.Entries.{body-none, thread-room, inbox-room, body-whole}
+use Rattle.saving.proofs.put_body.Statement.{statement}
+use Rattle.saving.proofs.put_body.Tie as tie
+
+read-requires : tie.Need-read-requires
+read-requires c κs = search needs
+
+returns : tie.Need-returns
+returns c = let a = c .before .before .before .before .args in body-none (a .b .now) (a .w .now) (a .l .now) (a .p .0) (c .before .before .before .before .pre .1) (c .before .before .read .ensures) (c .if1 .taken) (a .out .now) (a .at)
+
+put-thread-requires : tie.Need-put-thread-requires
+put-thread-requires c κs = let a = c .before .before .before .before .before .args in thread-room (a .b .now) (a .w .now) (a .l .now) (a .p .0) (c .before .before .before .before .before .pre .1) (c .before .before .before .read .ensures) (c .before .if1 .left) (a .out .now) (a .at) (c .before .before .before .before .before .pre .2)
+
+add-put-inbox : tie.Need-add-put-inbox
+add-put-inbox c = search needs
+
+put-inbox-requires : tie.Need-put-inbox-requires
+put-inbox-requires c κs =
+    let a = c .before .before .before .before .before .before .before .before .before .before .args in
+    (search needs, search needs, inbox-room (a .b .now) (a .w .now) (a .l .now) (a .p .0) (c .before .before .before .before .before .before .before .before .before .before .pre .1) (c .before .before .before .before .before .before .before .before .read .ensures) (c .before .before .before .before .before .before .if1 .left) (a .out .now) (a .at) (c .before .before .before .before .before .before .before .before .before .before .pre .2) (c .before .before .before .before .put-thread .ensures))
+
+same-length : tie.Need-same-length
+same-length c = search needs
+
+returns-2 : tie.Need-returns-2
+returns-2 c = let a = c .before .before .before .before .before .before .before .before .before .before .before .before .before .args in body-whole (a .b .now) (a .w .now) (a .l .now) (a .p .0) (c .before .before .before .before .before .before .before .before .before .before .before .before .before .pre .1) (c .before .before .before .before .before .before .before .before .before .before .before .read .ensures) (c .before .before .before .before .before .before .before .before .before .if1 .left) (a .out .now) (a .at) (c .before .before .before .before .before .before .before .before .before .before .before .before .before .pre .2) (c .before .before .before .before .before .before .before .put-thread .ensures) (c .before .before .put-inbox .ensures)
+
+pub put-body-spec : {M : Type 1} → statement M
+put-body-spec =
+    tie.close
+    (tie.spec
+    read-requires
+    returns
+    put-thread-requires
+    add-put-inbox
+    put-inbox-requires
+    same-length
+    returns-2)

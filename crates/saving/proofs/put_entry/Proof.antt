@@ -1,0 +1,62 @@
+-- `put_entry` meets its contract: nothing for an empty place; else an entry, and the next body starts behind this one.
+use borrow.Author.Needs.{needs}
+use Rattle.saving.specs.Entries.{entry-none, entry-room, entry-whole}
+use Rattle.saving.proofs.put_entry.Statement.{statement}
+use Rattle.saving.proofs.put_entry.Tie as tie
+
+read-requires : tie.Need-read-requires
+read-requires c κs = search needs
+
+returns : tie.Need-returns
+returns c = let a = c .before .before .before .before .args in entry-none (a .b .now) (a .w .now) (a .l .now) (a .p .0) (c .before .before .before .before .pre .place) (c .before .before .read .ensures) (c .if1 .taken) (a .out .now) (a .c .at) (a .c .body)
+
+entry-requires : tie.Need-entry-requires
+entry-requires c κs = search needs
+
+slice-aggregate-put : tie.Need-slice-aggregate-put
+slice-aggregate-put c = search needs
+
+put-requires : tie.Need-put-requires
+put-requires c κs = let a = c .before .before .before .before .before .before .before .args in entry-room (a .b .now) (a .w .now) (a .l .now) (a .p .0) (c .before .before .before .before .before .before .before .pre .place) (c .before .before .before .before .before .read .ensures) (c .before .before .before .if1 .left) (c .before .before .before .before .before .before .before .pre) (c .before .before .entry .ensures)
+
+add-measure : tie.Need-add-measure
+add-measure c = search needs
+
+measure-requires : tie.Need-measure-requires
+measure-requires c κs = search needs
+
+cast-t18 : tie.Need-cast-t18
+cast-t18 c = search needs
+
+add-t19 : tie.Need-add-t19
+add-t19 c = search needs
+
+wide-requires : tie.Need-wide-requires
+wide-requires c κs = search needs
+
+add-t21 : tie.Need-add-t21
+add-t21 c = search needs
+
+same-length : tie.Need-same-length
+same-length c = search needs
+
+returns-2 : tie.Need-returns-2
+returns-2 c = let a = c .before .before .before .before .before .before .before .before .before .before .before .before .before .before .args in entry-whole (a .b .now) (a .w .now) (a .l .now) (a .p .0) (c .before .before .before .before .before .before .before .before .before .before .before .before .before .before .pre .place) (c .before .before .before .before .before .before .before .before .before .before .before .before .read .ensures) (c .before .before .before .before .before .before .before .before .before .before .if1 .left) (c .before .before .before .before .before .before .before .before .before .before .before .before .before .before .pre) (c .before .before .before .before .before .before .before .before .before .entry .ensures) (c .before .before .before .before .before .before .put .ensures) (c .before .before .measure .ensures) (c .wide .ensures)
+
+pub put-entry-spec : {M : Type 1} → statement M
+put-entry-spec =
+    tie.close
+    (tie.spec
+    read-requires
+    returns
+    entry-requires
+    slice-aggregate-put
+    put-requires
+    add-measure
+    measure-requires
+    cast-t18
+    add-t19
+    wide-requires
+    add-t21
+    same-length
+    returns-2)

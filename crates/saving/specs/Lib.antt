@@ -1,0 +1,10 @@
+pub mod Format
+pub mod Longest
+pub mod Lining
+pub mod Parts
+pub mod Entries
+pub mod Places
+pub mod Written
+pub mod Save
+pub mod Saving
+pub mod Reached

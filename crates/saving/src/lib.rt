@@ -1,0 +1,294 @@
+// Saving: the image of a consistent state is written from front to back, as specs/Format.antt has it; the head comes last, since it tells the total.
+// Each function that writes gives the position behind what it wrote, and leaves every other byte as it was (`Wrote`).
+ghost use mathlib.Core.Path.{_≡_};
+ghost use mathlib.Core.List.{_∷_};
+ghost use Prim.Native.Nat.{_+_, _*_, _%_, _≤_, _<_};
+ghost use lib.ListN.{length};
+ghost use Rattle.lists.specs.Sizes.{places, lineCount};
+ghost use Rattle.lists.specs.Bytes.{twoBytes, wordBytes};
+ghost use Rattle.lists.specs.Laid.{Wrote};
+ghost use Rattle.lines.specs.Lines.{lineOf, Tidy};
+ghost use Rattle.table.specs.Cells.{asThread, shown, Stands};
+ghost use Rattle.nucleus.specs.View.{Consists};
+ghost use Rattle.saving.specs.Format.{headLength, entryLength, threadBytes};
+ghost use Rattle.saving.specs.Longest.{longestImage};
+ghost use Rattle.saving.specs.Parts.{held, bodyIn, bodiesIn, contentsIn, tailIn};
+ghost use Rattle.saving.specs.Entries.{EntryPut, PutsEntry};
+ghost use Rattle.saving.specs.Written.{PutsContents, PutsTail, headOf, Written};
+ghost use Rattle.saving.specs.Save.{Saves};
+use format::BODY;
+use format::EDITION;
+use format::ENTRY;
+use format::HEAD;
+use lines::Links;
+use nucleus::State;
+use rules::Number;
+use rules::Place;
+use table::Blocks;
+use table::Desk;
+use table::Thread;
+use table::Words;
+
+pub mod format;
+
+// The codes of a save: done, the buffer is shorter than the image, the state is not consistent.
+pub const DONE: u8 = 0;
+
+pub const SHORT: u8 = 7;
+
+pub const INCONSISTENT: u8 = 14;
+
+// The longest image.
+pub const LONGEST: usize = 584;
+
+// The low byte of a number.
+fn low(x: u32) -> u8
+    ensures { λ r. ⌜ r ≡ x % 256 ⌝ }
+{
+    (x % 256) as u8
+}
+
+// A byte as a number.
+fn wide(x: u8) -> u32
+    ensures { λ r. ⌜ r ≡ x ⌝ }
+{
+    x as u32
+}
+
+// Writes bytes at a position, and gives the position behind.
+fn put(out: &mut [u8], at: usize, bytes: &[u8]) -> usize
+    requires { ⌜ at + length (now bytes) ≤ length (now out) ⌝ }
+    ensures { λ r. ⌜ Wrote (now (out .entry)) at (now (bytes .entry)) (now (out .exit)) r ⌝ }
+{
+    let mut i = 0;
+    while i < bytes.len() {
+        out[at + i] = bytes[i];
+        i += 1;
+    }
+    at + i
+}
+
+// How long line q is.
+fn measure(l: &Links, q: u8) -> u8
+    requires { ⌜ Tidy places lineCount (now l) × (q < lineCount) ⌝ }
+    ensures { λ r. ⌜ r ≡ length (lineOf places (now (l .entry)) q) ⌝ }
+{
+    let mut n: u8 = 0;
+    let mut p = lines::first(l, q);
+    while p != lines::NONE {
+        n += 1;
+        p = lines::after(l, p);
+    }
+    n
+}
+
+// Writes the places of line q, front first, and gives the position behind.
+fn put_line(out: &mut [u8], at: usize, l: &Links, q: u8) -> usize
+    requires { ⌜ Tidy places lineCount (now l) × (q < lineCount) × (at + length (lineOf places (now l) q) ≤ length (now out)) ⌝ }
+    ensures { λ r. ⌜ Wrote (now (out .entry)) at (lineOf places (now (l .entry)) q) (now (out .exit)) r ⌝ }
+{
+    let mut next = at;
+    let mut p = lines::first(l, q);
+    while p != lines::NONE {
+        out[next] = p;
+        next += 1;
+        p = lines::after(l, p);
+    }
+    next
+}
+
+// Two bytes and a word: a thread's standing, partner and word are written so, and its answer.
+fn six(a: u8, b: u8, w: u32) -> [u8; 6]
+    ensures { λ r. ⌜ r ≡ a ∷ b ∷ wordBytes w ⌝ }
+{
+    let c = low(w);
+    let d = low(w / 256);
+    let e = low(w / 65536);
+    let f = low(w / 16777216);
+    [a, b, c, d, e, f]
+}
+
+// An entry of the contents: place, number, and the offset of the body.
+fn entry(p: Place, n: Number, offset: u32) -> [u8; 4]
+    ensures { λ r. ⌜ r ≡ p .0 ∷ n .0 ∷ twoBytes offset ⌝ }
+{
+    let a = low(offset);
+    let b = low(offset / 256);
+    [p.0, n.0, a, b]
+}
+
+// Writes a thread without its inbox.
+fn put_thread(out: &mut [u8], at: usize, t: Thread) -> usize
+    requires { ⌜ at + length (threadBytes (asThread t)) ≤ length (now out) ⌝ }
+    ensures { λ r. ⌜ Wrote (now (out .entry)) at (threadBytes (asThread t)) (now (out .exit)) r ⌝ }
+{
+    let answer = t.answer;
+    let call = six(t.standing, t.partner.0, t.word);
+    let told = six(answer.code, answer.who.0, answer.word);
+    let next = put(out, at, &call);
+    put(out, next, &told)
+}
+
+// Writes an inbox, line q: its length, and its places. The places come first, and tell the length.
+fn put_inbox(out: &mut [u8], at: usize, l: &Links, q: u8) -> usize
+    requires { ⌜ Tidy places lineCount (now l) × (q < lineCount) × (at + 1 + length (lineOf places (now l) q) ≤ length (now out)) ⌝ }
+    ensures { λ r. ⌜ Wrote (now (out .entry)) at (length (lineOf places (now (l .entry)) q) ∷ lineOf places (now (l .entry)) q) (now (out .exit)) r ⌝ }
+{
+    let first = at + 1;
+    let end = put_line(out, first, l, q);
+    out[at] = (end - first) as u8;
+    end
+}
+
+// Writes the body of the place p, if a thread lives there.
+fn put_body(out: &mut [u8], at: usize, b: &Blocks, w: &Words, l: &Links, p: Place) -> usize
+    requires { ⌜ Tidy places lineCount (now l) × (p .0 < places) × (at + length (bodyIn (now b) (now w) (now l) (p .0)) ≤ length (now out)) ⌝ }
+    ensures { λ r. ⌜ Wrote (now (out .entry)) at (bodyIn (now (b .entry)) (now (w .entry)) (now (l .entry)) (p .0)) (now (out .exit)) r ⌝ }
+{
+    let t = table::read(b, w, p);
+    if t.standing == rules::EMPTY {
+        return at;
+    }
+    let next = put_thread(out, at, t);
+    put_inbox(out, next, l, table::INBOX_LINES + p.0)
+}
+
+// Where the next entry of the contents goes, and where the body that it names starts.
+struct Cursor {
+    at: usize,
+    body: u32,
+}
+
+// Writes the entry of the place p, if a thread lives there.
+fn put_entry(out: &mut [u8], c: Cursor, b: &Blocks, w: &Words, l: &Links, p: Place) -> Cursor
+    requires { ⌜ PutsEntry (now b) (now w) (now l) (p .0) (now out) (c .at) (c .body) ⌝ }
+    ensures { λ r. ⌜ EntryPut (held (now (b .entry)) (now (w .entry)) (now (l .entry))) (p .0) (now (out .entry)) (c .at) (c .body) (now (out .exit)) (r .at) (r .body) ⌝ }
+{
+    let t = table::read(b, w, p);
+    if t.standing == rules::EMPTY {
+        return c;
+    }
+    let line = entry(p, t.number, c.body);
+    let next = put(out, c.at, &line);
+    let n = measure(l, table::INBOX_LINES + p.0);
+    Cursor {
+        at: next,
+        body: c.body + BODY as u32 + wide(n),
+    }
+}
+
+// Writes the contents, for a first body at `first`.
+fn put_contents(out: &mut [u8], b: &Blocks, w: &Words, l: &Links, first: u32) -> usize
+    requires { ⌜ PutsContents (now b) (now w) (now l) (now out) first ⌝ }
+    ensures { λ r. ⌜ Wrote (now (out .entry)) headLength (contentsIn (now (b .entry)) (now (w .entry)) (now (l .entry)) first) (now (out .exit)) r ⌝ }
+{
+    let mut c = Cursor {
+        at: HEAD,
+        body: first,
+    };
+    let mut p: u8 = 0;
+    while p < lines::PLACES as u8 {
+        c = put_entry(out, c, b, w, l, Place(p));
+        p += 1;
+    }
+    c.at
+}
+
+// Writes the bodies.
+fn put_bodies(out: &mut [u8], at: usize, b: &Blocks, w: &Words, l: &Links) -> usize
+    requires { ⌜ Tidy places lineCount (now l) × (at + length (bodiesIn (now b) (now w) (now l)) ≤ length (now out)) ⌝ }
+    ensures { λ r. ⌜ Wrote (now (out .entry)) at (bodiesIn (now (b .entry)) (now (w .entry)) (now (l .entry))) (now (out .exit)) r ⌝ }
+{
+    let mut next = at;
+    let mut p: u8 = 0;
+    while p < lines::PLACES as u8 {
+        next = put_body(out, next, b, w, l, Place(p));
+        p += 1;
+    }
+    next
+}
+
+// Writes all behind the head: contents, ready, clock, bodies.
+fn put_tail(out: &mut [u8], b: &Blocks, w: &Words, l: &Links, first: u32) -> usize
+    requires { ⌜ PutsTail (now b) (now w) (now l) (now out) first ⌝ }
+    ensures { λ r. ⌜ Wrote (now (out .entry)) headLength (tailIn (now (b .entry)) (now (w .entry)) (now (l .entry))) (now (out .exit)) r ⌝ }
+{
+    let ready = put_contents(out, b, w, l, first);
+    let clock = put_line(out, ready, l, table::READY_LINE);
+    let next = put_line(out, clock, l, table::CLOCK_LINE);
+    put_bodies(out, next, b, w, l)
+}
+
+// Where the first body starts.
+fn first_body(live: u8, ready: u8, clock: u8) -> u32
+    ensures { λ r. ⌜ r ≡ headLength + entryLength * live + (ready + clock) ⌝ }
+{
+    HEAD as u32 + ENTRY as u32 * wide(live) + (wide(ready) + wide(clock))
+}
+
+// The head: edition, last number, running place, live count, ready length, clock length, total length.
+fn head(d: Desk, live: u8, ready: u8, clock: u8, total: u32) -> [u8; HEAD]
+    ensures { λ r. ⌜ r ≡ headOf (d .last .0) (d .running .0) live ready clock total ⌝ }
+{
+    let a = low(total);
+    let b = low(total / 256);
+    [EDITION, d.last.0, d.running.0, live, ready, clock, a, b]
+}
+
+// Writes the image of a consistent state, and gives its length. The head comes last: it tells the total.
+pub fn write(b: &Blocks, w: &Words, l: &Links, d: Desk, out: &mut [u8]) -> usize
+    requires { ⌜ Stands d (now b) (now w) (now l) × (longestImage ≤ length (now out)) ⌝ }
+    ensures { λ r. ⌜ Written (shown d (now (b .entry)) (now (w .entry)) (now (l .entry))) (now (out .entry)) (now (out .exit)) r ⌝ }
+{
+    let live = filled::count(d.filled);
+    let ready = measure(l, table::READY_LINE);
+    let clock = measure(l, table::CLOCK_LINE);
+    let first = first_body(live, ready, clock);
+    let end = put_tail(out, b, w, l, first);
+    let h = head(d, live, ready, clock, end as u32);
+    put(out, 0, &h);
+    end
+}
+
+// What comes of saving: the code, and the length of the image, 0 where there is none.
+pub struct Saved {
+    pub code: u8,
+    pub length: usize,
+}
+
+// Saves a state that was tested. The image goes into an array of its own first, so that a buffer that is too short stays as it was.
+pub fn keep(s: State, buffer: &mut [u8]) -> Saved
+    requires { ⌜ Consists s ⌝ }
+    ensures { λ r. ⌜ Saves s (now (buffer .entry)) (r .code) (r .length) (now (buffer .exit)) ⌝ }
+{
+    let d = s.desk();
+    let b = s.blocks;
+    let w = s.words;
+    let l = s.lines;
+    let mut image = [0u8; LONGEST];
+    let n = write(&b, &w, &l, d, &mut image);
+    if buffer.len() < n {
+        return Saved {
+            code: SHORT,
+            length: 0,
+        };
+    }
+    put(buffer, 0, &image[..n]);
+    Saved {
+        code: DONE,
+        length: n,
+    }
+}
+
+// Saves any state into any buffer.
+pub fn save(s: State, buffer: &mut [u8]) -> Saved
+    ensures { λ r. ⌜ Saves s (now (buffer .entry)) (r .code) (r .length) (now (buffer .exit)) ⌝ }
+{
+    if !s.consistent() {
+        return Saved {
+            code: INCONSISTENT,
+            length: 0,
+        };
+    }
+    keep(s, buffer)
+}
