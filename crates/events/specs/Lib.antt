@@ -1,13 +1,1 @@
 pub mod Events
-pub mod Drain
-pub mod Clock
-pub mod Send
-pub mod Reply
-pub mod Pick
-pub mod Receive
-pub mod Number
-pub mod Create
-pub mod HandBack
-pub mod LetGo
-pub mod Leave
-pub mod End

@@ -15,14 +15,14 @@ fn act(b: &mut Blocks, w: &mut Words, l: &mut Links, d: Desk, e: Event) -> Outco
     ensures { λ r. ⌜ Did d (now (b .entry)) (now (w .entry)) (now (l .entry)) e r (now (b .exit)) (now (w .exit)) (now (l .exit)) ⌝ }
 {
     match e {
-        Event::Create => events::create::create(b, w, l, d),
-        Event::Send { to, word } => events::send::send(b, w, l, d, to, word),
-        Event::Receive { from } => events::receive::receive(b, w, l, d, from),
-        Event::Reply { to, word } => events::reply::reply(b, w, l, d, to, word),
-        Event::End { thread } => events::end::end(b, w, l, d, thread),
-        Event::WaitClock => events::clock::wait_clock(b, w, l, d),
-        Event::SliceEnd => events::clock::slice_end(b, w, l, d),
-        Event::Tick => events::clock::tick(b, w, l, d),
+        Event::Create => life::create::create(b, w, l, d),
+        Event::Send { to, word } => talk::send::send(b, w, l, d, to, word),
+        Event::Receive { from } => talk::receive::receive(b, w, l, d, from),
+        Event::Reply { to, word } => talk::reply::reply(b, w, l, d, to, word),
+        Event::End { thread } => life::end::end(b, w, l, d, thread),
+        Event::WaitClock => life::clock::wait_clock(b, w, l, d),
+        Event::SliceEnd => life::clock::slice_end(b, w, l, d),
+        Event::Tick => life::clock::tick(b, w, l, d),
     }
 }
 

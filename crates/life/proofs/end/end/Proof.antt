@@ -1,0 +1,46 @@
+-- `end` meets its contract: refused, or the thread ends and its place leaves the set of filled ones.
+use borrow.Author.Needs.{needs}
+use Rattle.life.specs.End.{ends, end-place, end-2, end-4, end-0}
+use Rattle.life.proofs.end.end.Statement.{statement}
+use Rattle.life.proofs.end.end.Tie as tie
+
+answer-requires : tie.Need-answer-requires
+answer-requires c κs = search needs
+
+returns : tie.Need-returns
+returns c = end-2 (c .before .before .before .pre) _ (c .before .if1 .taken) (c .answer .ensures)
+
+find-requires : tie.Need-find-requires
+find-requires c κs = search needs
+
+answer-requires-2 : tie.Need-answer-requires-2
+answer-requires-2 c κs = search needs
+
+returns-2 : tie.Need-returns-2
+returns-2 c = end-4 (c .before .before .before .before .before .before .before .pre) _ (c .before .before .before .before .before .if1 .left) (c .before .before .before .find .ensures) (c .before .if2 .taken) (c .answer2 .ensures)
+
+end-at-requires : tie.Need-end-at-requires
+end-at-requires c κs = ends (c .before .before .before .before .before .before .before .before .before .pre) (c .before .before .before .before .before .before .before .before .before .args .n) (c .before .before .before .before .before .before .before .if1 .left) (c .before .before .before .before .before .find .ensures) (c .before .before .before .if2 .left)
+
+less-requires : tie.Need-less-requires
+less-requires c κs = end-place (ends (c .before .before .before .before .before .before .before .before .before .before .pre) (c .before .before .before .before .before .before .before .before .before .before .args .n) (c .before .before .before .before .before .before .before .before .if1 .left) (c .before .before .before .before .before .before .find .ensures) (c .before .before .before .before .if2 .left))
+
+answer-requires-3 : tie.Need-answer-requires-3
+answer-requires-3 c κs = search needs
+
+returns-3 : tie.Need-returns-3
+returns-3 c = end-0 (c .before .before .before .before .before .before .before .before .before .before .before .before .before .before .pre) (c .before .before .before .before .before .before .before .before .before .before .before .before .before .before .args .n) (c .before .before .before .before .before .before .before .before .before .before .before .before .if1 .left) (c .before .before .before .before .before .before .before .before .before .before .find .ensures) (c .before .before .before .before .before .before .before .before .if2 .left) (c .before .before .before .before .end-at .ensures) (c .before .before .before .less .ensures) (c .answer3 .ensures)
+
+pub end-spec : {M : Type 1} → statement M
+end-spec =
+    tie.close
+    (tie.spec
+    answer-requires
+    returns
+    find-requires
+    answer-requires-2
+    returns-2
+    end-at-requires
+    less-requires
+    answer-requires-3
+    returns-3)

@@ -1,0 +1,79 @@
+// Events 6, 7 and 8: wait for the clock, slice end, tick.
+ghost use Rattle.rules.specs.Model.{clock};
+ghost use Rattle.rules.specs.declared.Event.the-variants.{WaitClock, SliceEnd, Tick};
+ghost use Rattle.table.specs.Cells.{Whole, Stands};
+ghost use Rattle.verbs.specs.Steps.{Steps};
+ghost use Rattle.events.specs.Events.{Did};
+ghost use Rattle.life.specs.Drain.{First, drains};
+ghost use Rattle.life.specs.Clock.{rings};
+use events::Outcome;
+use events::answer;
+use lines::Links;
+use rules::Number;
+use rules::Place;
+use table::Blocks;
+use table::Desk;
+use table::Words;
+
+// 6. The caller joins the back of the clock queue.
+pub fn wait_clock(b: &mut Blocks, w: &mut Words, l: &mut Links, d: Desk) -> Outcome
+    requires { ⌜ Stands d (now b) (now w) (now l) ⌝ }
+    ensures { λ r. ⌜ Did d (now (b .entry)) (now (w .entry)) (now (l .entry)) WaitClock r (now (b .exit)) (now (w .exit)) (now (l .exit)) ⌝ }
+{
+    let p = d.running;
+    if p.0 == lines::NONE {
+        return answer(verbs::IDLE, d);
+    }
+    table::stand(b, w, p, rules::WAITING, Number(rules::NOBODY), 0);
+    lines::join(l, table::CLOCK_LINE, p.0);
+    let e = verbs::turn_to(d, Place(lines::NONE));
+    answer(verbs::DONE, e)
+}
+
+// 7. The running thread goes to the back of ready. With none running, nothing changes.
+pub fn slice_end(b: &mut Blocks, w: &mut Words, l: &mut Links, d: Desk) -> Outcome
+    requires { ⌜ Stands d (now b) (now w) (now l) ⌝ }
+    ensures { λ r. ⌜ Did d (now (b .entry)) (now (w .entry)) (now (l .entry)) SliceEnd r (now (b .exit)) (now (w .exit)) (now (l .exit)) ⌝ }
+{
+    let p = d.running;
+    if p.0 == lines::NONE {
+        return answer(verbs::DONE, d);
+    }
+    verbs::ready(b, w, l, p);
+    let e = verbs::turn_to(d, Place(lines::NONE));
+    answer(verbs::DONE, e)
+}
+
+// The first clock waiter, if there is one, is woken.
+fn ring(b: &mut Blocks, w: &mut Words, l: &mut Links) -> bool
+    requires { ⌜ Whole (now b) (now w) (now l) ⌝ }
+    ensures { λ r. ⌜ First rings clock (now (b .entry)) (now (w .entry)) (now (l .entry)) (now (b .exit)) (now (w .exit)) (now (l .exit)) r ⌝ }
+{
+    let p = lines::pop(l, table::CLOCK_LINE);
+    if p == lines::NONE {
+        return false;
+    }
+    verbs::wake(b, w, l, Place(p), 0, Number(rules::NOBODY), 0);
+    true
+}
+
+// All clock waiters are, in order.
+fn ring_all(b: &mut Blocks, w: &mut Words, l: &mut Links)
+    requires { ⌜ Whole (now b) (now w) (now l) ⌝ }
+    ensures { λ r. ⌜ Steps (now (b .entry)) (now (w .entry)) (now (l .entry)) (now (b .exit)) (now (w .exit)) (now (l .exit)) (drains rings clock) ⌝ }
+{
+    loop {
+        if !ring(b, w, l) {
+            return;
+        }
+    }
+}
+
+// 8. All clock waiters join ready in order.
+pub fn tick(b: &mut Blocks, w: &mut Words, l: &mut Links, d: Desk) -> Outcome
+    requires { ⌜ Stands d (now b) (now w) (now l) ⌝ }
+    ensures { λ r. ⌜ Did d (now (b .entry)) (now (w .entry)) (now (l .entry)) Tick r (now (b .exit)) (now (w .exit)) (now (l .exit)) ⌝ }
+{
+    ring_all(b, w, l);
+    answer(verbs::DONE, d)
+}

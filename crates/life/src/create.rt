@@ -1,0 +1,61 @@
+// Event 1: create.
+ghost use mathlib.Core.Path.{_≡_};
+ghost use Rattle.rules.specs.declared.Event.the-variants.{Create};
+ghost use Rattle.table.specs.Cells.{Stands};
+ghost use Rattle.events.specs.Events.{Did};
+ghost use Rattle.life.specs.Number.{freeAfter};
+use events::Outcome;
+use events::answer;
+use lines::Links;
+use rules::Number;
+use rules::Place;
+use table::Blocks;
+use table::Desk;
+use table::Words;
+use verbs::address::find;
+
+// How many numbers there are.
+const NUMBERS: u8 = rules::LAST_NUMBER + 1;
+
+// The first number after `last` that nobody has.
+fn next_number(b: &Blocks, last: Number) -> Number
+    ensures { λ r. ⌜ r .0 ≡ freeAfter (now (b .entry)) (last .0) ⌝ }
+{
+    let mut n = last;
+    let mut left = NUMBERS;
+    while left > 0 {
+        n = counter::step(n);
+        let p = find(b, n);
+        if p.0 == lines::NONE {
+            return n;
+        }
+        left -= 1;
+    }
+    Number(rules::NOBODY)
+}
+
+// 1. The lowest empty place takes a thread with the next number that is not in use, which joins the back of ready.
+pub fn create(b: &mut Blocks, w: &mut Words, l: &mut Links, d: Desk) -> Outcome
+    requires { ⌜ Stands d (now b) (now w) (now l) ⌝ }
+    ensures { λ r. ⌜ Did d (now (b .entry)) (now (w .entry)) (now (l .entry)) Create r (now (b .exit)) (now (w .exit)) (now (l .exit)) ⌝ }
+{
+    if filled::count(d.filled) == lines::PLACES as u8 {
+        return answer(verbs::FULL, d);
+    }
+    let p = filled::lowest(d.filled);
+    let last = d.last;
+    let n = next_number(b, last);
+    verbs::seat(b, w, l, Place(p), n);
+    let x = filled::with(d.filled, p);
+    let running = d.running;
+    let e = Desk {
+        filled: x,
+        last: n,
+        running: running,
+    };
+    Outcome {
+        code: verbs::DONE,
+        desk: e,
+        number: n,
+    }
+}

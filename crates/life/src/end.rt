@@ -1,0 +1,157 @@
+// Event 5: end.
+ghost use mathlib.Core.Path.{_≡_};
+ghost use Prim.Native.Nat.{_<_, _≤_};
+ghost use Rattle.lines.specs.Lines.{lineOf, Loose, Tidy};
+ghost use Rattle.rules.specs.Model.{places, lineCount, lastNumber};
+ghost use Rattle.rules.specs.Rules.{end};
+ghost use Rattle.rules.specs.declared.Event.the-variants.{End};
+ghost use Rattle.order.specs.HandBack.{let-step};
+ghost use Rattle.table.specs.Cells.{Whole, Stands};
+ghost use Rattle.verbs.specs.Steps.{Steps, Turns};
+ghost use Rattle.events.specs.Events.{Did};
+ghost use Rattle.life.specs.Drain.{First, drains};
+ghost use Rattle.life.specs.HandBack.{backs};
+ghost use Rattle.life.specs.LetGo.{Lies, letFrom};
+ghost use Rattle.life.specs.Leave.{lineIn, Served, Leaves};
+ghost use Rattle.life.specs.End.{Ends};
+use events::Outcome;
+use events::answer;
+use lines::Links;
+use rules::Number;
+use rules::Place;
+use table::Blocks;
+use table::Desk;
+use table::Words;
+use verbs::address::find;
+
+// The code of an answer to those whose receiver has ended.
+const ENDED: u8 = 16;
+
+// p, which stands in no line and waited for the thread n that ends, has its own word back.
+fn give_back(b: &mut Blocks, w: &mut Words, l: &mut Links, n: Number, p: Place)
+    requires { ⌜ Whole (now b) (now w) (now l) × (p .0 < places) × Loose lineCount (lineOf places (now l)) (p .0) ⌝ }
+    ensures { λ r. ⌜ Steps (now (b .entry)) (now (w .entry)) (now (l .entry)) (now (b .exit)) (now (w .exit)) (now (l .exit)) (backs (n .0) (p .0)) ⌝ }
+{
+    let word = table::word_of(w, p);
+    verbs::wake(b, w, l, p, ENDED, n, word);
+}
+
+// The first in line q, the inbox of the thread n that ends, has; false where nobody stands there.
+fn hand_back(b: &mut Blocks, w: &mut Words, l: &mut Links, n: Number, q: u8) -> bool
+    requires { ⌜ Whole (now b) (now w) (now l) × (0 < q) × (q < lineCount) ⌝ }
+    ensures { λ r. ⌜ First (backs (n .0)) q (now (b .entry)) (now (w .entry)) (now (l .entry)) (now (b .exit)) (now (w .exit)) (now (l .exit)) r ⌝ }
+{
+    let p = lines::pop(l, q);
+    if p == lines::NONE {
+        return false;
+    }
+    give_back(b, w, l, n, Place(p));
+    true
+}
+
+// All in line q have, front to back.
+fn hand_all_back(b: &mut Blocks, w: &mut Words, l: &mut Links, n: Number, q: u8)
+    requires { ⌜ Whole (now b) (now w) (now l) × (0 < q) × (q < lineCount) ⌝ }
+    ensures { λ r. ⌜ Steps (now (b .entry)) (now (w .entry)) (now (l .entry)) (now (b .exit)) (now (w .exit)) (now (l .exit)) (drains (backs (n .0)) q) ⌝ }
+{
+    loop {
+        if !hand_back(b, w, l, n, q) {
+            return;
+        }
+    }
+}
+
+// Whoever stands at p and awaits a reply of the number n has, too.
+fn let_one(b: &mut Blocks, w: &mut Words, l: &mut Links, n: Number, p: Place)
+    requires { ⌜ Lies (now b) (now w) (now l) × (p .0 < places) ⌝ }
+    ensures { λ r. ⌜ Steps (now (b .entry)) (now (w .entry)) (now (l .entry)) (now (b .exit)) (now (w .exit)) (now (l .exit)) (let-step (n .0) (p .0)) ⌝ }
+{
+    if !table::awaits(b, p, n) {
+        return;
+    }
+    give_back(b, w, l, n, p);
+}
+
+// All who await a reply of the number n have, by rising place.
+fn let_go(b: &mut Blocks, w: &mut Words, l: &mut Links, n: Number)
+    requires { ⌜ Lies (now b) (now w) (now l) × (n .0 ≤ lastNumber) ⌝ }
+    ensures { λ r. ⌜ Steps (now (b .entry)) (now (w .entry)) (now (l .entry)) (now (b .exit)) (now (w .exit)) (now (l .exit)) (letFrom (n .0) 0 places) ⌝ }
+{
+    let mut p: u8 = 0;
+    while p < lines::PLACES as u8 {
+        let_one(b, w, l, n, Place(p));
+        p += 1;
+    }
+}
+
+// The line where the thread at p stands, or NONE.
+fn line_of(b: &Blocks, p: Place) -> u8
+    requires { ⌜ (p .0 < places) × Served (now b) (p .0) ⌝ }
+    ensures { λ r. ⌜ r ≡ lineIn (now (b .entry)) (p .0) ⌝ }
+{
+    let standing = table::standing_of(b, p);
+    if standing == rules::READY {
+        return table::READY_LINE;
+    }
+    if standing == rules::SENDING {
+        let partner = table::partner_of(b, p);
+        let r = find(b, partner);
+        return table::INBOX_LINES + r.0;
+    }
+    if standing == rules::WAITING {
+        return table::CLOCK_LINE;
+    }
+    lines::NONE
+}
+
+// The thread at p leaves its line, or stops running.
+fn out_of_line(b: &Blocks, l: &mut Links, d: Desk, p: Place) -> Desk
+    requires { ⌜ Tidy places lineCount (now l) × (p .0 < places) × Served (now b) (p .0) ⌝ }
+    ensures { λ r. ⌜ Leaves d (now (b .entry)) (now (l .entry)) (p .0) r (now (l .exit)) ⌝ }
+{
+    if table::standing_of(b, p) == rules::RUNNING {
+        return verbs::turn_to(d, Place(lines::NONE));
+    }
+    let q = line_of(b, p);
+    if q == lines::NONE {
+        return d;
+    }
+    lines::leave(l, q, p.0);
+    d
+}
+
+// The thread at p, of the number n, ends. It leaves its line last: until then every thread that names it as a partner finds it.
+fn end_at(b: &mut Blocks, w: &mut Words, l: &mut Links, d: Desk, n: Number, p: Place) -> Desk
+    requires { ⌜ Ends d (now b) (now w) (now l) (n .0) (p .0) ⌝ }
+    ensures { λ r. ⌜ Turns d (now (b .entry)) (now (w .entry)) (now (l .entry)) r (now (b .exit)) (now (w .exit)) (now (l .exit)) (end (n .0)) ⌝ }
+{
+    hand_all_back(b, w, l, n, table::INBOX_LINES + p.0);
+    let_go(b, w, l, n);
+    let e = out_of_line(b, l, d, p);
+    table::clean(b, w, p);
+    e
+}
+
+// 5. The thread with the number n ends: those who wait for it are let go, and its place is empty.
+pub fn end(b: &mut Blocks, w: &mut Words, l: &mut Links, d: Desk, n: Number) -> Outcome
+    requires { ⌜ Stands d (now b) (now w) (now l) ⌝ }
+    ensures { λ r. ⌜ Did d (now (b .entry)) (now (w .entry)) (now (l .entry)) (End n) r (now (b .exit)) (now (w .exit)) (now (l .exit)) ⌝ }
+{
+    if n.0 > rules::LAST_NUMBER {
+        return answer(verbs::NO_NUMBER, d);
+    }
+    let p = find(b, n);
+    if p.0 == lines::NONE {
+        return answer(verbs::NOT_LIVE, d);
+    }
+    let e = end_at(b, w, l, d, n, p);
+    let x = filled::less(e.filled, p.0);
+    let last = e.last;
+    let running = e.running;
+    let f = Desk {
+        filled: x,
+        last: last,
+        running: running,
+    };
+    answer(verbs::DONE, f)
+}

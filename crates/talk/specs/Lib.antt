@@ -1,0 +1,4 @@
+pub mod Send
+pub mod Reply
+pub mod Pick
+pub mod Receive
