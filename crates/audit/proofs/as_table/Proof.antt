@@ -22,7 +22,15 @@ returns-6 : tie.Need-returns-6
 returns-6 c = rw (c .if6 .taken)
 
 returns-7 : tie.Need-returns-7
-returns-7 c = let st = c .before .before .before .before .before .before .before .args .standing in rw (ne-eqb st 1 (c .before .before .before .before .before .if1 .left), ne-eqb st 2 (c .before .before .before .before .if2 .left), ne-eqb st 3 (c .before .before .before .if3 .left), ne-eqb st 4 (c .before .before .if4 .left), ne-eqb st 5 (c .before .if5 .left), ne-eqb st 6 (c .if6 .left))
+returns-7 c =
+    let at-if4 = c .before .before in
+    let at-if3 = at-if4 .before in
+    let at-if2 = at-if3 .before in
+    let at-if1 = at-if2 .before in
+    let start = at-if1 .before .before in
+    let st = start .args .standing in
+    rw
+    (ne-eqb st 1 (at-if1 .if1 .left), ne-eqb st 2 (at-if2 .if2 .left), ne-eqb st 3 (at-if3 .if3 .left), ne-eqb st 4 (at-if4 .if4 .left), ne-eqb st 5 (c .before .if5 .left), ne-eqb st 6 (c .if6 .left))
 
 pub as-table-spec : {M : Type 1} → statement M
 as-table-spec =

@@ -22,7 +22,10 @@ returns-2 c =
     tells-no (not-members k (c .before .members .ensures .no (not-true _ (c .if2 .taken))))
 
 seated-requires : tie.Need-seated-requires
-seated-requires c κs = c .before .before .before .before .before .before .survey .ensures .yes (not-false _ (c .before .before .before .before .if1 .left)) .tidy
+seated-requires c κs =
+    let at-if1 = c .before .before .before .before in
+    let at-survey = at-if1 .before .before in
+    at-survey .survey .ensures .yes (not-false _ (at-if1 .if1 .left)) .tidy
 
 returns-3 : tie.Need-returns-3
 returns-3 c =
@@ -40,9 +43,19 @@ words-requires c κs = search needs
 
 returns-4 : tie.Need-returns-4
 returns-4 c =
-    let a = c .before .before .before .before .before .before .before .before .before .before .before .before .before .before .before .args in
-    answer _ _ _ (c .before .before .before .before .before .before .before .before .before .before .before .before .before .before .survey .ensures .yes (not-false _ (c .before .before .before .before .before .before .before .before .before .before .before .before .if1 .left))) (c .before .before .before .before .before .before .before .before .before .members .ensures .yes (not-false _ (c .before .before .before .before .before .before .before .before .if2 .left)))
-    (sym (c .before .before .before .before .before .before .before .seated .ensures (a .w .now)) ∙ not-false _ (c .before .before .before .before .before .before .if3 .left)) (c .words .ensures .1) (c .before .before .before .before .before .filling .ensures) (c .before .before .bytes .ensures) (c .words .ensures .0)
+    let at-bytes = c .before .before in
+    let at-filling = at-bytes .before .before .before in
+    let at-if3 = at-filling .before in
+    let at-seated = at-if3 .before in
+    let at-if2 = at-seated .before in
+    let at-members = at-if2 .before in
+    let at-if1 = at-members .before .before .before in
+    let at-survey = at-if1 .before .before in
+    let start = at-survey .before in
+    let a = start .args in
+    answer _ _ _ (at-survey .survey .ensures .yes (not-false _ (at-if1 .if1 .left))) (at-members .members .ensures .yes (not-false _ (at-if2 .if2 .left)))
+    (sym (at-seated .seated .ensures (a .w .now)) ∙ not-false _ (at-if3 .if3 .left)) (c .words .ensures .1) (at-filling .filling .ensures)
+    (at-bytes .bytes .ensures) (c .words .ensures .0)
 
 pub consistent-spec : {M : Type 1} → statement M
 consistent-spec =

@@ -43,9 +43,11 @@ loop-less c = search needs
 
 loop-again : tie.Need-loop-again Inv-loop μ-loop
 loop-again c =
-    let f = c .before .before .before .before in
-    let w = c .before .before .before .loop in
-    let h = c .before .before .loop-test .taken in (
+    let at-loop-test = c .before .before in
+    let at-before = at-loop-test .before in
+    let f = at-before .before in
+    let w = at-before .loop in
+    let h = at-loop-test .loop-test .taken in (
       omega arith,
       rw add-one (⊎-elim
           (λ v. v .2 ∙ v .1 .ensures (upto (w .p) (standsAt (f .args .b .now))) (w .inv .1) ∙ upto-in places (w .p) (standsAt (f .args .b .now)) (ap not (ne-eqb _ _ (v .0 .taken))))

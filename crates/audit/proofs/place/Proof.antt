@@ -39,12 +39,17 @@ unheard-requires c κs = search needs
 
 returns : tie.Need-returns
 returns c =
-    let f = c .before .before .before .before .before .before .before .before .before in
-    let t = c .before .before .before .before .before .before .before .before .read in
-    seat-test (modelOf 0 (f .args .running .0) (f .args .b .now) (f .args .w .now) []) (f .args .at .now) (f .args .who .now) (f .args .p .0) _ _ (asThread (t .result)) _ _ _
+    let at-fits2 = c .before .before in
+    let at-home = at-fits2 .before in
+    let at-wide = at-home .before .before .before .before in
+    let at-before = at-wide .before in
+    let f = at-before .before in
+    let t = at-before .read in
+    seat-test (modelOf 0 (f .args .running .0) (f .args .b .now) (f .args .w .now) []) (f .args .at .now) (f .args .who .now) (f .args .p .0) _ _
+    (asThread (t .result)) _ _ _
     (t .ensures ∙ sym (thread-at 0 (f .args .running .0) (f .args .b .now) (f .args .w .now) [] (f .args .p .0) (f .pre)))
-    (ap (λ (n : ℕ). getD (f .args .who .now) n 0) (c .before .before .before .before .before .before .before .wide .ensures .0))
-    (c .before .before .fits2 .ensures) (c .before .runs-alone .ensures) (c .before .before .before .home .ensures) (c .unheard .ensures (f .args .w .now))
+    (ap (λ (n : ℕ). getD (f .args .who .now) n 0) (at-wide .wide .ensures .0))
+    (at-fits2 .fits2 .ensures) (c .before .runs-alone .ensures) (at-home .home .ensures) (c .unheard .ensures (f .args .w .now))
 
 pub place-spec : {M : Type 1} → statement M
 place-spec =

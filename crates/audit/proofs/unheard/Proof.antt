@@ -19,10 +19,12 @@ returns c = λ w. rw (ne-eqb (c .before .before .args .t .standing) 3 (c .if1 .t
 
 returns-2 : tie.Need-returns-2
 returns-2 c =
+    let at-if1 = c .before .before in
+    let at-before = at-if1 .before in
     λ w.
-    let f = c .before .before .before .before in
+    let f = at-before .before in
     let v = length-tab places (threadOf (f .args .b .now) w) in
-    rw (eq-eqb (f .args .t .standing) 3 (c .before .before .if1 .left), List·getD-eq-default (tab places (threadOf (f .args .b .now) w)) vacant {n = f .args .r .0} (omega arith))
+    rw (eq-eqb (f .args .t .standing) 3 (at-if1 .if1 .left), List·getD-eq-default (tab places (threadOf (f .args .b .now) w)) vacant {n = f .args .r .0} (omega arith))
 
 listens-requires : tie.Need-listens-requires
 listens-requires c κs = search needs

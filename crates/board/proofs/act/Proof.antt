@@ -15,7 +15,11 @@ decline-requires : tie.Need-decline-requires
 decline-requires c κs = search needs
 
 returns : tie.Need-returns
-returns c = act-refused (view (c .before .before .before .before .before .before .args .s)) _ (c .before .before .before .before .before .before .args .out .now) (c .before .before .before .before .act .ensures) (c .before .before .if1 .taken) (c .before .choose .ensures) (c .decline .ensures)
+returns c =
+    let at-if1 = c .before .before in
+    let at-act = at-if1 .before .before in
+    let start = at-act .before .before in
+    act-refused (view (start .args .s)) _ (start .args .out .now) (at-act .act .ensures) (at-if1 .if1 .taken) (c .before .choose .ensures) (c .decline .ensures)
 
 keep-requires : tie.Need-keep-requires
 keep-requires c κs = search needs
@@ -30,7 +34,14 @@ same-length : tie.Need-same-length
 same-length c = search needs
 
 returns-2 : tie.Need-returns-2
-returns-2 c = act-short (view (c .before .before .before .before .before .before .before .before .before .before .before .before .before .args .s)) _ (c .before .before .before .before .before .before .before .before .before .before .before .before .before .args .out .now) (c .before .before .before .before .before .before .before .before .before .before .before .act .ensures) (c .before .before .before .before .before .before .before .before .before .if1 .left) (c .before .before .before .before .before .before .keep .ensures) (c .before .before .if2 .taken) (c .before .choose2 .ensures) (c .decline2 .ensures)
+returns-2 c =
+    let at-if2 = c .before .before in
+    let at-keep = at-if2 .before .before .before .before in
+    let at-if1 = at-keep .before .before .before in
+    let at-act = at-if1 .before .before in
+    let start = at-act .before .before in
+    act-short (view (start .args .s)) _ (start .args .out .now) (at-act .act .ensures) (at-if1 .if1 .left) (at-keep .keep .ensures)
+    (at-if2 .if2 .taken) (c .before .choose2 .ensures) (c .decline2 .ensures)
 
 kind-requires : tie.Need-kind-requires
 kind-requires c κs = search needs
@@ -39,13 +50,24 @@ runs-requires : tie.Need-runs-requires
 runs-requires c κs = search needs
 
 narrow-requires : tie.Need-narrow-requires
-narrow-requires c κs = save-short (c .before .before .before .before .before .before .before .before .before .before .before .act .ensures .state) (c .before .before .before .before .before .before .keep .ensures)
+narrow-requires c κs =
+    let at-keep = c .before .before .before .before .before .before in
+    let at-act = at-keep .before .before .before .before .before in
+    save-short (at-act .act .ensures .state) (at-keep .keep .ensures)
 
 same-length-2 : tie.Need-same-length-2
 same-length-2 c = search needs
 
 returns-3 : tie.Need-returns-3
-returns-3 c = act-done (view (c .before .before .before .before .before .before .before .before .before .before .before .before .before .before .args .s)) _ (c .before .before .before .before .before .before .before .before .before .before .before .before .before .before .args .out .now) (c .before .before .before .before .before .before .before .before .before .before .before .before .act .ensures) (c .before .before .before .before .before .before .before .before .before .before .if1 .left) (c .before .before .before .before .before .before .before .keep .ensures) (c .before .before .before .if2 .left) (c .before .before .kind .ensures) (c .before .runs .ensures) (c .narrow .ensures)
+returns-3 c =
+    let at-kind = c .before .before in
+    let at-if2 = at-kind .before in
+    let at-keep = at-if2 .before .before .before .before in
+    let at-if1 = at-keep .before .before .before in
+    let at-act = at-if1 .before .before in
+    let start = at-act .before .before in
+    act-done (view (start .args .s)) _ (start .args .out .now) (at-act .act .ensures) (at-if1 .if1 .left) (at-keep .keep .ensures) (at-if2 .if2 .left)
+    (at-kind .kind .ensures) (c .before .runs .ensures) (c .narrow .ensures)
 
 pub act-spec : {M : Type 1} → statement M
 act-spec =

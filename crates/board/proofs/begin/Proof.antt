@@ -14,7 +14,10 @@ same-length : tie.Need-same-length
 same-length c = search needs
 
 returns : tie.Need-returns
-returns c = (fresh-saved (c .before .before .before .before .fresh .ensures) (c .before .before .keep .ensures), save-short (c .before .before .before .before .fresh .ensures) (c .before .before .keep .ensures))
+returns c =
+    let at-keep = c .before .before in
+    let at-fresh = at-keep .before .before in
+    (fresh-saved (at-fresh .fresh .ensures) (at-keep .keep .ensures), save-short (at-fresh .fresh .ensures) (at-keep .keep .ensures))
 
 pub begin-spec : {M : Type 1} → statement M
 begin-spec = tie.close (tie.spec fresh-requires keep-requires same-length returns)

@@ -20,7 +20,11 @@ same-length : tie.Need-same-length
 same-length c = search needs
 
 returns-2 : tie.Need-returns-2
-returns-2 c = bring-played (c .before .before .before .before .before .before .before .load .ensures) (c .before .before .before .before .before .if1 .left) (c .before .before .play .ensures)
+returns-2 c =
+    let at-play = c .before .before in
+    let at-if1 = at-play .before .before .before in
+    let at-load = at-if1 .before .before in
+    bring-played (at-load .load .ensures) (at-if1 .if1 .left) (at-play .play .ensures)
 
 pub bring-spec : {M : Type 1} → statement M
 bring-spec =

@@ -20,7 +20,11 @@ same-length : tie.Need-same-length
 same-length c = search needs
 
 returns-2 : tie.Need-returns-2
-returns-2 c = step-taken (c .before .before .before .before .before .before .before .load .ensures) (c .before .before .before .before .before .if1 .left) (c .before .before .take .ensures)
+returns-2 c =
+    let at-take = c .before .before in
+    let at-if1 = at-take .before .before .before in
+    let at-load = at-if1 .before .before in
+    step-taken (at-load .load .ensures) (at-if1 .if1 .left) (at-take .take .ensures)
 
 pub step-spec : {M : Type 1} → statement M
 step-spec =

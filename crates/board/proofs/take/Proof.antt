@@ -24,7 +24,12 @@ decline-requires : tie.Need-decline-requires
 decline-requires c κs = search needs
 
 returns : tie.Need-returns
-returns c = take-bad (view (c .before .before .before .before .before .before .before .args .s)) (c .before .before .before .before .before .before .before .args .rec .now) (c .before .before .before .before .before .before .before .args .out .now) (c .before .before .before .before .read-at .ensures) (stop-or (c .before .before .before .before .read-at .result) (λ e next q. miss (1 ∷ 2 ∷ 3 ∷ 4 ∷ []) 0 tt (rw q at (c .before .before .before .match .keys2)))) (c .before .before .bad .ensures) (c .before .choose .ensures) (c .decline .ensures)
+returns c =
+    let at-bad = c .before .before in
+    let at-match = at-bad .before in
+    let at-read-at = at-match .before in
+    let start = at-read-at .before .before .before in
+    take-bad (view (start .args .s)) (start .args .rec .now) (start .args .out .now) (at-read-at .read-at .ensures) (stop-or (at-read-at .read-at .result) (λ e next q. miss (1 ∷ 2 ∷ 3 ∷ 4 ∷ []) 0 tt (rw q at (at-match .match .keys2)))) (at-bad .bad .ensures) (c .before .choose .ensures) (c .decline .ensures)
 
 choose-requires-2 : tie.Need-choose-requires-2
 choose-requires-2 c κs = search needs
@@ -33,7 +38,13 @@ decline-requires-2 : tie.Need-decline-requires-2
 decline-requires-2 c κs = search needs
 
 returns-2 : tie.Need-returns-2
-returns-2 c = take-more (view (c .before .before .before .before .before .before .before .before .before .args .s)) (c .before .before .before .before .before .before .before .before .before .args .rec .now) (c .before .before .before .before .before .before .before .before .before .args .out .now) (c .before .before .before .before .before .before .read-at .ensures) (c .before .before .before .before .got .given .1) (c .before .before .if1 .taken) (c .before .choose2 .ensures) (c .decline2 .ensures)
+returns-2 c =
+    let at-if1 = c .before .before in
+    let at-got = at-if1 .before .before in
+    let at-read-at = at-got .before .before in
+    let start = at-read-at .before .before .before in
+    take-more (view (start .args .s)) (start .args .rec .now) (start .args .out .now) (at-read-at .read-at .ensures) (at-got .got .given .1)
+    (at-if1 .if1 .taken) (c .before .choose2 .ensures) (c .decline2 .ensures)
 
 act-requires : tie.Need-act-requires
 act-requires c κs = search needs
@@ -42,7 +53,14 @@ same-length : tie.Need-same-length
 same-length c = search needs
 
 returns-3 : tie.Need-returns-3
-returns-3 c = take-one (view (c .before .before .before .before .before .before .before .before .before .before .before .args .s)) (c .before .before .before .before .before .before .before .before .before .before .before .args .rec .now) (c .before .before .before .before .before .before .before .before .before .before .before .args .out .now) (c .before .before .before .before .before .before .before .before .read-at .ensures) (c .before .before .before .before .before .before .got .given .1) (c .before .before .before .before .if1 .left) (c .before .before .act .ensures)
+returns-3 c =
+    let at-act = c .before .before in
+    let at-if1 = at-act .before .before in
+    let at-got = at-if1 .before .before in
+    let at-read-at = at-got .before .before in
+    let start = at-read-at .before .before .before in
+    take-one (view (start .args .s)) (start .args .rec .now) (start .args .out .now) (at-read-at .read-at .ensures) (at-got .got .given .1)
+    (at-if1 .if1 .left) (at-act .act .ensures)
 
 pub take-spec : {M : Type 1} → statement M
 take-spec =

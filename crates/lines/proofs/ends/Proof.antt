@@ -30,8 +30,11 @@ element-copy-out-if2 c = search needs
 
 returns : tie.Need-returns Inv-loop μ-loop
 returns c =
-    let f = c .before .before .before .before .before .before in
-    tells-no λ z. bad-bare (f .pre) (omega arith) (c .before .before .before .before .before .loop .p) (c .before .before .before .before .loop-test .taken) (c .before .before .if1 .taken) (c .if2 .taken) z
+    let at-if1 = c .before .before in
+    let at-loop-test = at-if1 .before .before in
+    let at-before = at-loop-test .before in
+    let f = at-before .before in
+    tells-no λ z. bad-bare (f .pre) (omega arith) (at-before .loop .p) (at-loop-test .loop-test .taken) (at-if1 .if1 .taken) (c .if2 .taken) z
 
 add-p : tie.Need-add-p Inv-loop μ-loop
 add-p c = search needs
@@ -41,7 +44,8 @@ loop-less c = search needs
 
 loop-again : tie.Need-loop-again Inv-loop μ-loop
 loop-again c =
-    (omega arith, below-more _ _ (c .before .before .before .loop .inv .1) (⊎-elim (λ w e. omega (arith, w .2 .left)) (λ w e. absurd (w .left e)) (c .if1 .came)))
+    let at-loop = c .before .before .before in
+    (omega arith, below-more _ _ (at-loop .loop .inv .1) (⊎-elim (λ w e. omega (arith, w .2 .left)) (λ w e. absurd (w .left e)) (c .if1 .came)))
 
 size-requires : tie.Need-size-requires Inv-loop μ-loop
 size-requires c κs = search needs

@@ -62,9 +62,12 @@ loop-less c =
 
 loop-again : tie.Need-loop-again Inv-loop μ-loop
 loop-again c =
-    let f = c .before .before .before .before .before .before .before in
-    let w = c .before .before .before .before .before .before .loop in
-    rw (c .wide .ensures) (walked-on (f .pre .0) (f .pre .1) (omega arith) (w .inv) (c .before .before .before .before .if1 .taken) (c .before .before .if2 .left))
+    let at-if2 = c .before .before in
+    let at-if1 = at-if2 .before .before in
+    let at-before = at-if1 .before .before in
+    let f = at-before .before in
+    let w = at-before .loop in
+    rw (c .wide .ensures) (walked-on (f .pre .0) (f .pre .1) (omega arith) (w .inv) (at-if1 .if1 .taken) (at-if2 .if2 .left))
 
 returns-2 : tie.Need-returns-2 Inv-loop μ-loop
 returns-2 c =

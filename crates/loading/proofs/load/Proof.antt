@@ -12,7 +12,9 @@ refuse-requires : tie.Need-refuse-requires
 refuse-requires c κs = search needs
 
 returns : tie.Need-returns
-returns c = bad-head (λ e. c .before .if1 .taken (c .before .before .head-code .ensures ∙ e)) (rw (c .before .before .head-code .ensures) at (c .refuse .ensures))
+returns c =
+    let at-head-code = c .before .before in
+    bad-head (λ e. c .before .if1 .taken (at-head-code .head-code .ensures ∙ e)) (rw (at-head-code .head-code .ensures) at (c .refuse .ensures))
 
 judge-requires : tie.Need-judge-requires
 judge-requires c κs = search needs

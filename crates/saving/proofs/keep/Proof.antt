@@ -12,25 +12,51 @@ slice-aggregate-write : tie.Need-slice-aggregate-write
 slice-aggregate-write c = search needs
 
 write-requires : tie.Need-write-requires
-write-requires c κs = (save-stands (c .before .before .before .before .before .before .before .before .before .pre) (c .before .before .before .before .before .before .before .desk .ensures), omega arith)
+write-requires c κs =
+    let at-desk = c .before .before .before .before .before .before .before in
+    let start = at-desk .before .before in
+    (save-stands (start .pre) (at-desk .desk .ensures), omega arith)
 
 returns : tie.Need-returns
-returns c = save-7 (c .before .before .before .before .before .before .before .before .before .before .before .before .pre) (c .before .before .before .before .before .before .before .before .before .before .desk .ensures) (c .before .before .write .ensures) (c .before .before .before .before .before .before .before .before .before .before .before .before .args .buffer .now) (c .if1 .taken)
+returns c =
+    let at-write = c .before .before in
+    let at-desk = at-write .before .before .before .before .before .before .before .before in
+    let start = at-desk .before .before in
+    save-7 (start .pre) (at-desk .desk .ensures) (at-write .write .ensures) (start .args .buffer .now) (c .if1 .taken)
 
 array-share-prefix-image : tie.Need-array-share-prefix-image
-array-share-prefix-image c = image-fits (c .before .before .before .before .before .before .before .before .before .before .before .before .before .pre) (c .before .before .before .before .before .before .before .before .before .before .before .desk .ensures) (c .before .before .before .write .ensures)
+array-share-prefix-image c =
+    let at-write = c .before .before .before in
+    let at-desk = at-write .before .before .before .before .before .before .before .before in
+    let start = at-desk .before .before in
+    image-fits (start .pre) (at-desk .desk .ensures) (at-write .write .ensures)
 
 slice-aggregate-put : tie.Need-slice-aggregate-put
-slice-aggregate-put c = image-size (c .before .before .before .before .before .before .before .before .before .before .before .before .before .before .pre) (c .before .before .before .before .before .before .before .before .before .before .before .before .desk .ensures) (c .before .before .before .before .write .ensures)
+slice-aggregate-put c =
+    let at-write = c .before .before .before .before in
+    let at-desk = at-write .before .before .before .before .before .before .before .before in
+    let start = at-desk .before .before in
+    image-size (start .pre) (at-desk .desk .ensures) (at-write .write .ensures)
 
 put-requires : tie.Need-put-requires
-put-requires c κs = save-room (c .before .before .before .before .before .before .before .before .before .before .before .before .before .before .pre) (c .before .before .before .before .before .before .before .before .before .before .before .before .desk .ensures) (c .before .before .before .before .write .ensures) (c .before .before .before .before .before .before .before .before .before .before .before .before .before .before .args .buffer .now) (c .before .before .if1 .left)
+put-requires c κs =
+    let at-if1 = c .before .before in
+    let at-write = at-if1 .before .before in
+    let at-desk = at-write .before .before .before .before .before .before .before .before in
+    let start = at-desk .before .before in
+    save-room (start .pre) (at-desk .desk .ensures) (at-write .write .ensures) (start .args .buffer .now) (at-if1 .if1 .left)
 
 same-length : tie.Need-same-length
 same-length c = search needs
 
 returns-2 : tie.Need-returns-2
-returns-2 c = save-0 (c .before .before .before .before .before .before .before .before .before .before .before .before .before .before .before .before .before .pre) (c .before .before .before .before .before .before .before .before .before .before .before .before .before .before .before .desk .ensures) (c .before .before .before .before .before .before .before .write .ensures) (c .before .before .before .before .before .before .before .before .before .before .before .before .before .before .before .before .before .args .buffer .now) (c .before .before .before .before .before .if1 .left) (c .before .before .put .ensures)
+returns-2 c =
+    let at-put = c .before .before in
+    let at-if1 = at-put .before .before .before in
+    let at-write = at-if1 .before .before in
+    let at-desk = at-write .before .before .before .before .before .before .before .before in
+    let start = at-desk .before .before in
+    save-0 (start .pre) (at-desk .desk .ensures) (at-write .write .ensures) (start .args .buffer .now) (at-if1 .if1 .left) (at-put .put .ensures)
 
 pub keep-spec : {M : Type 1} → statement M
 keep-spec =

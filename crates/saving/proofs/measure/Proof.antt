@@ -20,24 +20,39 @@ loop-holds : tie.Need-loop-holds Inv-loop μ-loop
 loop-holds c = count-start _ _ _ _ (c .first .ensures)
 
 add-n : tie.Need-add-n Inv-loop μ-loop
-add-n c = let f = c .before .before .before .pre in let a = line-short (f .0) (omega arith) (f .1) in let b = count-room (c .before .loop .inv) (c .loop-test .taken) in omega arith
+add-n c =
+    let start = c .before .before .before in
+    let f = start .pre in
+    let a = line-short (f .0) (omega arith) (f .1) in
+    let b = count-room (c .before .loop .inv) (c .loop-test .taken) in
+    omega arith
 
 after-requires : tie.Need-after-requires Inv-loop μ-loop
-after-requires c κs = let f = c .before .before .before .pre in (f .0, walk-place (f .0) (omega arith) (f .1) (c .before .loop .inv .reaches) (c .loop-test .taken))
+after-requires c κs =
+    let start = c .before .before .before in
+    let f = start .pre in
+    (f .0, walk-place (f .0) (omega arith) (f .1) (c .before .loop .inv .reaches) (c .loop-test .taken))
 
 loop-less : tie.Need-loop-less Inv-loop μ-loop
 loop-less c =
-    let f = c .before .before .before .before .pre in
-    let z = ap length (walk-on (f .0) (omega arith) (f .1) (c .before .before .loop .inv .reaches) (c .before .loop-test .taken) (c .after .ensures) .left-is) in
+    let at-loop = c .before .before in
+    let start = at-loop .before .before in
+    let f = start .pre in
+    let z = ap length (walk-on (f .0) (omega arith) (f .1) (at-loop .loop .inv .reaches) (c .before .loop-test .taken) (c .after .ensures) .left-is) in
     omega arith
 
 loop-again : tie.Need-loop-again Inv-loop μ-loop
 loop-again c =
-    let f = c .before .before .before .before .pre in
-    count-more (c .before .before .loop .inv) (walk-on (f .0) (omega arith) (f .1) (c .before .before .loop .inv .reaches) (c .before .loop-test .taken) (c .after .ensures))
+    let at-loop = c .before .before in
+    let start = at-loop .before .before in
+    let f = start .pre in
+    count-more (at-loop .loop .inv) (walk-on (f .0) (omega arith) (f .1) (at-loop .loop .inv .reaches) (c .before .loop-test .taken) (c .after .ensures))
 
 returns : tie.Need-returns Inv-loop μ-loop
-returns c = let f = c .before .before .before .pre in count-end (c .before .loop .inv) (walk-end (f .0) (omega arith) (f .1) (omega (arith, c .loop-test .left)))
+returns c =
+    let start = c .before .before .before in
+    let f = start .pre in
+    count-end (c .before .loop .inv) (walk-end (f .0) (omega arith) (f .1) (omega (arith, c .loop-test .left)))
 
 pub measure-spec : {M : Type 1} → statement M
 measure-spec =

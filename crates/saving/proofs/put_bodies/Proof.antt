@@ -20,7 +20,10 @@ cast-loop : tie.Need-cast-loop Inv-loop μ-loop
 cast-loop c = search needs
 
 put-body-requires : tie.Need-put-body-requires Inv-loop μ-loop
-put-body-requires c κs = (c .before .before .before .before .pre .0, c .before .loop-test .taken, bodies-room (c .before .before .loop .inv .0) (c .before .loop-test .taken))
+put-body-requires c κs =
+    let at-loop = c .before .before in
+    let start = at-loop .before .before in
+    (start .pre .0, c .before .loop-test .taken, bodies-room (at-loop .loop .inv .0) (c .before .loop-test .taken))
 
 add-p : tie.Need-add-p Inv-loop μ-loop
 add-p c = search needs
@@ -29,7 +32,11 @@ loop-less : tie.Need-loop-less Inv-loop μ-loop
 loop-less c = search needs
 
 loop-again : tie.Need-loop-again Inv-loop μ-loop
-loop-again c = (bodies-more (c .before .before .before .before .before .loop .inv .0) (c .before .before .before .before .loop-test .taken) (c .before .before .put-body .ensures), search needs)
+loop-again c =
+    let at-put-body = c .before .before in
+    let at-loop-test = at-put-body .before .before in
+    let at-loop = at-loop-test .before in
+    (bodies-more (at-loop .loop .inv .0) (at-loop-test .loop-test .taken) (at-put-body .put-body .ensures), search needs)
 
 same-length : tie.Need-same-length Inv-loop μ-loop
 same-length c = bodies-length-is (c .before .loop .inv .0) (c .before .before .before .pre .1)

@@ -15,13 +15,18 @@ abbrev μ-loop : tie.MeasureT-loop
 μ-loop out₀ b w l first c₀ p₀ out c p = places - p
 
 loop-holds : tie.Need-loop-holds Inv-loop μ-loop
-loop-holds c = let a = c .before .args in (contents-start (held (a .b .now) (a .w .now) (a .l .now)) (a .out .now) headLength (a .first) (c .before .pre .room), search needs)
+loop-holds c =
+    let a = c .before .args in
+    (contents-start (held (a .b .now) (a .w .now) (a .l .now)) (a .out .now) headLength (a .first) (c .before .pre .room), search needs)
 
 cast-loop : tie.Need-cast-loop Inv-loop μ-loop
 cast-loop c = search needs
 
 put-entry-requires : tie.Need-put-entry-requires Inv-loop μ-loop
-put-entry-requires c κs = enters (c .before .before .loop .inv .0) (c .before .before .before .before .pre .lines) (c .before .loop-test .taken) (c .before .before .before .before .pre .low)
+put-entry-requires c κs =
+    let at-loop = c .before .before in
+    let start = at-loop .before .before in
+    enters (at-loop .loop .inv .0) (start .pre .lines) (c .before .loop-test .taken) (start .pre .low)
 
 add-p : tie.Need-add-p Inv-loop μ-loop
 add-p c = search needs
@@ -30,7 +35,11 @@ loop-less : tie.Need-loop-less Inv-loop μ-loop
 loop-less c = search needs
 
 loop-again : tie.Need-loop-again Inv-loop μ-loop
-loop-again c = (contents-more (c .before .before .before .before .before .loop .inv .0) (c .before .before .before .before .loop-test .taken) (c .before .before .put-entry .ensures), search needs)
+loop-again c =
+    let at-put-entry = c .before .before in
+    let at-loop-test = at-put-entry .before .before in
+    let at-loop = at-loop-test .before in
+    (contents-more (at-loop .loop .inv .0) (at-loop-test .loop-test .taken) (at-put-entry .put-entry .ensures), search needs)
 
 same-length : tie.Need-same-length Inv-loop μ-loop
 same-length c = contents-length-is (c .before .loop .inv .0) (c .before .before .before .pre .room)

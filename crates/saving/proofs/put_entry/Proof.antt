@@ -8,7 +8,11 @@ read-requires : tie.Need-read-requires
 read-requires c κs = search needs
 
 returns : tie.Need-returns
-returns c = let a = c .before .before .before .before .args in entry-none (a .b .now) (a .w .now) (a .l .now) (a .p .0) (c .before .before .before .before .pre .place) (c .before .before .read .ensures) (c .if1 .taken) (a .out .now) (a .c .at) (a .c .body)
+returns c =
+    let at-read = c .before .before in
+    let start = at-read .before .before in
+    let a = start .args in
+    entry-none (a .b .now) (a .w .now) (a .l .now) (a .p .0) (start .pre .place) (at-read .read .ensures) (c .if1 .taken) (a .out .now) (a .c .at) (a .c .body)
 
 entry-requires : tie.Need-entry-requires
 entry-requires c κs = search needs
@@ -17,7 +21,14 @@ slice-aggregate-put : tie.Need-slice-aggregate-put
 slice-aggregate-put c = search needs
 
 put-requires : tie.Need-put-requires
-put-requires c κs = let a = c .before .before .before .before .before .before .before .args in entry-room (a .b .now) (a .w .now) (a .l .now) (a .p .0) (c .before .before .before .before .before .before .before .pre .place) (c .before .before .before .before .before .read .ensures) (c .before .before .before .if1 .left) (c .before .before .before .before .before .before .before .pre) (c .before .before .entry .ensures)
+put-requires c κs =
+    let at-entry = c .before .before in
+    let at-if1 = at-entry .before in
+    let at-read = at-if1 .before .before in
+    let start = at-read .before .before in
+    let a = start .args in
+    entry-room (a .b .now) (a .w .now) (a .l .now) (a .p .0) (start .pre .place) (at-read .read .ensures) (at-if1 .if1 .left) (start .pre)
+    (at-entry .entry .ensures)
 
 add-measure : tie.Need-add-measure
 add-measure c = search needs
@@ -41,7 +52,16 @@ same-length : tie.Need-same-length
 same-length c = search needs
 
 returns-2 : tie.Need-returns-2
-returns-2 c = let a = c .before .before .before .before .before .before .before .before .before .before .before .before .before .before .args in entry-whole (a .b .now) (a .w .now) (a .l .now) (a .p .0) (c .before .before .before .before .before .before .before .before .before .before .before .before .before .before .pre .place) (c .before .before .before .before .before .before .before .before .before .before .before .before .read .ensures) (c .before .before .before .before .before .before .before .before .before .before .if1 .left) (c .before .before .before .before .before .before .before .before .before .before .before .before .before .before .pre) (c .before .before .before .before .before .before .before .before .before .entry .ensures) (c .before .before .before .before .before .before .put .ensures) (c .before .before .measure .ensures) (c .wide .ensures)
+returns-2 c =
+    let at-measure = c .before .before in
+    let at-put = at-measure .before .before .before .before in
+    let at-entry = at-put .before .before .before in
+    let at-if1 = at-entry .before in
+    let at-read = at-if1 .before .before in
+    let start = at-read .before .before in
+    let a = start .args in
+    entry-whole (a .b .now) (a .w .now) (a .l .now) (a .p .0) (start .pre .place) (at-read .read .ensures) (at-if1 .if1 .left) (start .pre)
+    (at-entry .entry .ensures) (at-put .put .ensures) (at-measure .measure .ensures) (c .wide .ensures)
 
 pub put-entry-spec : {M : Type 1} → statement M
 put-entry-spec =

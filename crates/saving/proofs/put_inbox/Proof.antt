@@ -16,7 +16,13 @@ sub-out : tie.Need-sub-out
 sub-out c = search needs
 
 cast-out : tie.Need-cast-out
-cast-out c = let f = c .before .before .before .before .before .pre in let n = line-short (f .0) (omega arith) (f .1) in let e = c .before .before .put-line .ensures .next in omega arith
+cast-out c =
+    let at-put-line = c .before .before in
+    let start = at-put-line .before .before .before in
+    let f = start .pre in
+    let n = line-short (f .0) (omega arith) (f .1) in
+    let e = at-put-line .put-line .ensures .next in
+    omega arith
 
 slice-write-out : tie.Need-slice-write-out
 slice-write-out c = search needs

@@ -28,24 +28,35 @@ add-next : tie.Need-add-next Inv-loop μ-loop
 add-next c = let b = lining-room (c .before .loop .inv) (c .loop-test .taken) in search needs
 
 after-requires : tie.Need-after-requires Inv-loop μ-loop
-after-requires c κs = let f = c .before .before .before .before .pre in (f .0, walk-place (f .0) (omega arith) (f .1) (c .before .loop .inv .reaches) (c .loop-test .taken))
+after-requires c κs =
+    let start = c .before .before .before .before in
+    let f = start .pre in
+    (f .0, walk-place (f .0) (omega arith) (f .1) (c .before .loop .inv .reaches) (c .loop-test .taken))
 
 loop-less : tie.Need-loop-less Inv-loop μ-loop
 loop-less c =
-    let f = c .before .before .before .before .before .pre in
-    let z = ap length (walk-on (f .0) (omega arith) (f .1) (c .before .before .loop .inv .reaches) (c .before .loop-test .taken) (c .after .ensures) .left-is) in
+    let at-loop = c .before .before in
+    let start = at-loop .before .before .before in
+    let f = start .pre in
+    let z = ap length (walk-on (f .0) (omega arith) (f .1) (at-loop .loop .inv .reaches) (c .before .loop-test .taken) (c .after .ensures) .left-is) in
     omega arith
 
 loop-again : tie.Need-loop-again Inv-loop μ-loop
 loop-again c =
-    let f = c .before .before .before .before .before .pre in
-    lining-more (c .before .before .loop .inv) (c .before .loop-test .taken) (walk-on (f .0) (omega arith) (f .1) (c .before .before .loop .inv .reaches) (c .before .loop-test .taken) (c .after .ensures))
+    let at-loop = c .before .before in
+    let start = at-loop .before .before .before in
+    let f = start .pre in
+    lining-more (at-loop .loop .inv) (c .before .loop-test .taken)
+    (walk-on (f .0) (omega arith) (f .1) (at-loop .loop .inv .reaches) (c .before .loop-test .taken) (c .after .ensures))
 
 same-length : tie.Need-same-length Inv-loop μ-loop
 same-length c = lining-length (c .before .loop .inv) (c .before .before .before .before .pre .2)
 
 returns : tie.Need-returns Inv-loop μ-loop
-returns c = let f = c .before .before .before .before .pre in lining-end (c .before .loop .inv) (walk-end (f .0) (omega arith) (f .1) (omega (arith, c .loop-test .left)))
+returns c =
+    let start = c .before .before .before .before in
+    let f = start .pre in
+    lining-end (c .before .loop .inv) (walk-end (f .0) (omega arith) (f .1) (omega (arith, c .loop-test .left)))
 
 pub put-line-spec : {M : Type 1} → statement M
 put-line-spec =

@@ -26,7 +26,13 @@ same-length : tie.Need-same-length
 same-length c = search needs
 
 returns : tie.Need-returns
-returns c = wrote-both (c .before .before .before .before .before .before .before .put .ensures) (c .before .before .put2 .ensures) (c .before .before .before .before .before .before .before .before .before .before .before .six .ensures) (c .before .before .before .before .before .before .before .before .before .before .six2 .ensures) (c .before .before .before .before .before .before .before .before .before .before .before .before .before .before .pre)
+returns c =
+    let at-put2 = c .before .before in
+    let at-put = at-put2 .before .before .before .before .before in
+    let at-six2 = at-put .before .before .before in
+    let at-six = at-six2 .before in
+    let start = at-six .before .before .before in
+    wrote-both (at-put .put .ensures) (at-put2 .put2 .ensures) (at-six .six .ensures) (at-six2 .six2 .ensures) (start .pre)
 
 pub put-thread-spec : {M : Type 1} → statement M
 put-thread-spec =

@@ -18,10 +18,23 @@ first-body-requires : tie.Need-first-body-requires
 first-body-requires c κs = search needs
 
 put-tail-requires : tie.Need-put-tail-requires
-put-tail-requires c κs = write-tail (c .before .before .before .before .before .before .pre .0) (c .before .before .before .before .count .ensures) (c .before .before .before .measure .ensures) (c .before .before .measure2 .ensures) (c .before .first-body .ensures) (c .before .before .before .before .before .before .pre .1)
+put-tail-requires c κs =
+    let at-measure2 = c .before .before in
+    let at-measure = at-measure2 .before in
+    let at-count = at-measure .before in
+    let start = at-count .before .before in
+    write-tail (start .pre .0) (at-count .count .ensures) (at-measure .measure .ensures) (at-measure2 .measure2 .ensures)
+    (c .before .first-body .ensures) (start .pre .1)
 
 cast-head : tie.Need-cast-head
-cast-head c = let h = write-low (c .before .before .before .before .before .before .before .before .before .pre .0) (c .before .before .before .before .before .before .before .count .ensures) (c .before .before .before .before .before .before .measure .ensures) (c .before .before .before .before .before .measure2 .ensures) (c .before .before .put-tail .ensures) in omega arith
+cast-head c =
+    let at-put-tail = c .before .before in
+    let at-measure2 = at-put-tail .before .before .before in
+    let at-measure = at-measure2 .before in
+    let at-count = at-measure .before in
+    let start = at-count .before .before in
+    let h = write-low (start .pre .0) (at-count .count .ensures) (at-measure .measure .ensures) (at-measure2 .measure2 .ensures) (at-put-tail .put-tail .ensures) in
+    omega arith
 
 head-requires : tie.Need-head-requires
 head-requires c κs = search needs
@@ -36,7 +49,16 @@ same-length : tie.Need-same-length
 same-length c = search needs
 
 returns : tie.Need-returns
-returns c = write-whole (c .before .before .before .before .before .before .before .before .before .before .before .before .before .before .before .pre .0) (c .before .before .before .before .before .before .before .before .before .before .before .before .before .count .ensures) (c .before .before .before .before .before .before .before .before .before .before .before .before .measure .ensures) (c .before .before .before .before .before .before .before .before .before .before .before .measure2 .ensures) (c .before .before .before .before .before .before .before .before .put-tail .ensures) (c .before .before .before .before .before .head .ensures) (c .before .before .put .ensures) (c .before .before .before .before .before .before .before .before .before .before .before .before .before .before .before .pre .1)
+returns c =
+    let at-put = c .before .before in
+    let at-head = at-put .before .before .before in
+    let at-put-tail = at-head .before .before .before in
+    let at-measure2 = at-put-tail .before .before .before in
+    let at-measure = at-measure2 .before in
+    let at-count = at-measure .before in
+    let start = at-count .before .before in
+    write-whole (start .pre .0) (at-count .count .ensures) (at-measure .measure .ensures) (at-measure2 .measure2 .ensures)
+    (at-put-tail .put-tail .ensures) (at-head .head .ensures) (at-put .put .ensures) (start .pre .1)
 
 pub write-spec : {M : Type 1} → statement M
 write-spec =

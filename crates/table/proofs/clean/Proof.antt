@@ -14,7 +14,12 @@ tell-requires : tie.Need-tell-requires
 tell-requires c κs = search needs
 
 returns : tie.Need-returns
-returns c = let f = c .before .before .before .before .before .before .before .before in cleaned (f .pre .0) (f .pre .1) (c .before .before .before .before .before .before .name .ensures) (c .before .before .before .stand .ensures) (c .tell .ensures)
+returns c =
+    let at-stand = c .before .before .before in
+    let at-name = at-stand .before .before .before in
+    let at-before = at-name .before in
+    let f = at-before .before in
+    cleaned (f .pre .0) (f .pre .1) (at-name .name .ensures) (at-stand .stand .ensures) (c .tell .ensures)
 
 pub clean-spec : {M : Type 1} → statement M
 clean-spec = tie.close (tie.spec name-requires stand-requires tell-requires returns)

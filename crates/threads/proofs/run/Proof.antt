@@ -15,7 +15,11 @@ dispatch-requires : tie.Need-dispatch-requires
 dispatch-requires c κs = c .before .before .before .before .before .before .before .act .ensures .whole
 
 returns-2 : tie.Need-returns-2
-returns-2 c = ran (c .before .before .before .before .before .before .before .before .before .before .before .before .pre) _ (c .before .before .before .before .before .before .before .before .act .ensures) (omega (arith, c .before .before .before .before .before .before .if1 .left)) (c .dispatch .ensures)
+returns-2 c =
+    let at-if1 = c .before .before .before .before .before .before in
+    let at-act = at-if1 .before .before in
+    let start = at-act .before .before .before .before in
+    ran (start .pre) _ (at-act .act .ensures) (omega (arith, at-if1 .if1 .left)) (c .dispatch .ensures)
 
 pub run-spec : {M : Type 1} → statement M
 run-spec = tie.close (tie.spec act-requires returns dispatch-requires returns-2)

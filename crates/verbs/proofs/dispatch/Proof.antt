@@ -12,16 +12,28 @@ pop-requires : tie.Need-pop-requires
 pop-requires c κs = search needs
 
 returns-2 : tie.Need-returns-2
-returns-2 c = dispatch-none (c .before .before .before .before .before .pre) (c .before .before .before .before .before .args .d) (c .before .before .before .if1 .left) (c .before .pop .ensures) (c .if2 .taken)
+returns-2 c =
+    let at-if1 = c .before .before .before in
+    let start = at-if1 .before .before in
+    dispatch-none (start .pre) (start .args .d) (at-if1 .if1 .left) (c .before .pop .ensures) (c .if2 .taken)
 
 stand-requires : tie.Need-stand-requires
-stand-requires c κs = somebody (c .before .before .before .before .before .before .before .pre) (omega arith) (c .before .before .before .pop .ensures) (c .before .before .if2 .left) .place
+stand-requires c κs =
+    let at-if2 = c .before .before in
+    let at-pop = at-if2 .before in
+    let start = at-pop .before .before .before .before in
+    somebody (start .pre) (omega arith) (at-pop .pop .ensures) (at-if2 .if2 .left) .place
 
 turn-to-requires : tie.Need-turn-to-requires
 turn-to-requires c κs = search needs
 
 returns-3 : tie.Need-returns-3
-returns-3 c = dispatch-some (c .before .before .before .before .before .before .before .before .before .pre) (c .before .before .before .before .before .before .before .before .before .args .d) (c .before .before .before .before .before .before .before .if1 .left) (c .before .before .before .before .before .pop .ensures) (c .before .before .before .before .if2 .left) (c .before .stand .ensures) (c .turn-to .ensures)
+returns-3 c =
+    let at-if2 = c .before .before .before .before in
+    let at-pop = at-if2 .before in
+    let at-if1 = at-pop .before .before in
+    let start = at-if1 .before .before in
+    dispatch-some (start .pre) (start .args .d) (at-if1 .if1 .left) (at-pop .pop .ensures) (at-if2 .if2 .left) (c .before .stand .ensures) (c .turn-to .ensures)
 
 pub dispatch-spec : {M : Type 1} → statement M
 dispatch-spec =

@@ -8,10 +8,16 @@ name-requires : tie.Need-name-requires
 name-requires c κs = search needs
 
 wake-requires : tie.Need-wake-requires
-wake-requires c κs = (named (c .before .before .before .before .before .pre .0) (c .before .before .before .before .before .pre .1) (c .before .before .before .name .ensures) .whole, c .before .before .before .before .before .pre .1, c .before .before .before .before .before .pre .2)
+wake-requires c κs =
+    let at-name = c .before .before .before in
+    let start = at-name .before .before in
+    (named (start .pre .0) (start .pre .1) (at-name .name .ensures) .whole, start .pre .1, start .pre .2)
 
 returns : tie.Need-returns
-returns c = seats (c .before .before .before .before .before .before .pre .0) (c .before .before .before .before .before .before .pre .1) (c .before .before .before .before .name .ensures) (c .wake .ensures)
+returns c =
+    let at-name = c .before .before .before .before in
+    let start = at-name .before .before in
+    seats (start .pre .0) (start .pre .1) (at-name .name .ensures) (c .wake .ensures)
 
 pub seat-spec : {M : Type 1} → statement M
 seat-spec = tie.close (tie.spec name-requires wake-requires returns)

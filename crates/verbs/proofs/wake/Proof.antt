@@ -9,10 +9,16 @@ tell-requires : tie.Need-tell-requires
 tell-requires c κs = search needs
 
 ready-requires : tie.Need-ready-requires
-ready-requires c κs = (heard (c .before .before .before .before .before .before .pre .0) (c .before .before .before .before .before .before .pre .1) (c .before .before .before .tell .ensures) .whole, c .before .before .before .before .before .before .pre .1, c .before .before .before .before .before .before .pre .2)
+ready-requires c κs =
+    let at-tell = c .before .before .before in
+    let start = at-tell .before .before .before in
+    (heard (start .pre .0) (start .pre .1) (at-tell .tell .ensures) .whole, start .pre .1, start .pre .2)
 
 returns : tie.Need-returns
-returns c = woke (c .before .before .before .before .before .before .before .pre .0) (c .before .before .before .before .before .before .before .pre .1) (heard (c .before .before .before .before .before .before .before .pre .0) (c .before .before .before .before .before .before .before .pre .1) (c .before .before .before .before .tell .ensures)) (c .ready .ensures)
+returns c =
+    let at-tell = c .before .before .before .before in
+    let start = at-tell .before .before .before in
+    woke (start .pre .0) (start .pre .1) (heard (start .pre .0) (start .pre .1) (at-tell .tell .ensures)) (c .ready .ensures)
 
 pub wake-spec : {M : Type 1} → statement M
 wake-spec = tie.close (tie.spec tell-requires ready-requires returns)

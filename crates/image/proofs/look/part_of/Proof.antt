@@ -23,16 +23,26 @@ wide-requires c κs = search needs
 
 returns-2 : tie.Need-returns-2
 returns-2 c =
-    let e = c .before .wide .ensures .0 ∙ c .before .before .at .ensures in
-    locates-missing (c .before .before .before .before .before .load .ensures) (c .before .before .before .before .if1 .left) (c .before .before .before .find .ensures) (omega arith)
+    let at-at = c .before .before in
+    let at-find = at-at .before in
+    let at-if1 = at-find .before in
+    let at-load = at-if1 .before in
+    let e = c .before .wide .ensures .0 ∙ at-at .at .ensures in
+    locates-missing (at-load .load .ensures) (at-if1 .if1 .left) (at-find .find .ensures) (omega arith)
 
 body-requires : tie.Need-body-requires
 body-requires c κs = search needs
 
 returns-3 : tie.Need-returns-3
 returns-3 c =
-    let e = c .before .before .wide .ensures .0 ∙ c .before .before .before .at .ensures in
-    locates-spotted (c .before .before .before .before .before .before .load .ensures) (c .before .before .before .before .before .if1 .left) (c .before .before .before .before .find .ensures) (omega arith) (c .body .ensures .0) (c .body .ensures .1) (c .body .ensures .2)
+    let at-wide = c .before .before in
+    let at-at = at-wide .before in
+    let at-find = at-at .before in
+    let at-if1 = at-find .before in
+    let at-load = at-if1 .before in
+    let e = at-wide .wide .ensures .0 ∙ at-at .at .ensures in
+    locates-spotted (at-load .load .ensures) (at-if1 .if1 .left) (at-find .find .ensures) (omega arith) (c .body .ensures .0) (c .body .ensures .1)
+    (c .body .ensures .2)
 
 pub part-of-spec : {M : Type 1} → statement M
 part-of-spec =

@@ -15,11 +15,18 @@ returns c = first-none rings (omega arith) (c .before .before .before .pre) (c .
 
 wake-requires : tie.Need-wake-requires
 wake-requires c κs =
-    let n = somebody (c .before .before .before .before .before .before .pre) (omega arith) (c .before .before .before .before .pop .ensures) (c .before .before .before .if1 .left) in
-    (popped (c .before .before .before .before .before .before .pre) (omega arith) (c .before .before .before .before .pop .ensures) .whole, n .place, n .loose)
+    let at-if1 = c .before .before .before in
+    let at-pop = at-if1 .before in
+    let start = at-pop .before .before in
+    let n = somebody (start .pre) (omega arith) (at-pop .pop .ensures) (at-if1 .if1 .left) in
+    (popped (start .pre) (omega arith) (at-pop .pop .ensures) .whole, n .place, n .loose)
 
 returns-2 : tie.Need-returns-2
-returns-2 c = first-some rings (omega arith) (c .before .before .before .before .before .before .before .pre) (c .before .before .before .before .before .pop .ensures) rings-spare (c .before .before .before .before .if1 .left) (c .wake .ensures)
+returns-2 c =
+    let at-if1 = c .before .before .before .before in
+    let at-pop = at-if1 .before in
+    let start = at-pop .before .before in
+    first-some rings (omega arith) (start .pre) (at-pop .pop .ensures) rings-spare (at-if1 .if1 .left) (c .wake .ensures)
 
 pub ring-spec : {M : Type 1} → statement M
 ring-spec = tie.close (tie.spec pop-requires returns wake-requires returns-2)

@@ -12,7 +12,10 @@ returns : tie.Need-returns
 returns c = slice-idle (c .before .before .before .before .pre) (c .before .if1 .taken) (c .answer .ensures)
 
 ready-requires : tie.Need-ready-requires
-ready-requires c κs = (c .before .before .before .before .before .before .pre .whole, caller-place (c .before .before .before .before .before .before .pre) (c .before .before .before .if1 .left), caller-loose (c .before .before .before .before .before .before .pre) (c .before .before .before .if1 .left))
+ready-requires c κs =
+    let at-if1 = c .before .before .before in
+    let start = at-if1 .before .before .before in
+    (start .pre .whole, caller-place (start .pre) (at-if1 .if1 .left), caller-loose (start .pre) (at-if1 .if1 .left))
 
 turn-to-requires : tie.Need-turn-to-requires
 turn-to-requires c κs = search needs
@@ -21,7 +24,11 @@ answer-requires-2 : tie.Need-answer-requires-2
 answer-requires-2 c κs = search needs
 
 returns-2 : tie.Need-returns-2
-returns-2 c = slice-busy (c .before .before .before .before .before .before .before .before .before .pre) (c .before .before .before .before .before .before .if1 .left) (c .before .before .ready .ensures) (c .before .turn-to .ensures) (c .answer2 .ensures)
+returns-2 c =
+    let at-ready = c .before .before in
+    let at-if1 = at-ready .before .before .before .before in
+    let start = at-if1 .before .before .before in
+    slice-busy (start .pre) (at-if1 .if1 .left) (at-ready .ready .ensures) (c .before .turn-to .ensures) (c .answer2 .ensures)
 
 pub slice-end-spec : {M : Type 1} → statement M
 slice-end-spec =

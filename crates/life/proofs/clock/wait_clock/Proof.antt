@@ -19,7 +19,10 @@ stand-requires : tie.Need-stand-requires
 stand-requires c κs = caller-place (c .before .before .before .before .before .pre) (c .before .before .if1 .left)
 
 join-requires : tie.Need-join-requires
-join-requires c κs = (c .before .before .before .before .before .before .before .pre .whole .lines, omega arith, caller-place (c .before .before .before .before .before .before .before .pre) (c .before .before .before .before .if1 .left), caller-loose (c .before .before .before .before .before .before .before .pre) (c .before .before .before .before .if1 .left))
+join-requires c κs =
+    let at-if1 = c .before .before .before .before in
+    let start = at-if1 .before .before .before in
+    (start .pre .whole .lines, omega arith, caller-place (start .pre) (at-if1 .if1 .left), caller-loose (start .pre) (at-if1 .if1 .left))
 
 turn-to-requires : tie.Need-turn-to-requires
 turn-to-requires c κs = search needs
@@ -29,9 +32,13 @@ answer-requires-2 c κs = search needs
 
 returns-2 : tie.Need-returns-2
 returns-2 c =
-    let s = stood (c .before .before .before .before .before .before .before .before .before .before .pre .whole) (caller-place (c .before .before .before .before .before .before .before .before .before .before .pre) (c .before .before .before .before .before .before .before .if1 .left)) (c .before .before .before .before .stand .ensures) in
-    let t = joined (s .whole) (omega arith) (c .before .before .join .ensures) in
-    wait-0 (c .before .before .before .before .before .before .before .before .before .before .pre) (c .before .before .before .before .before .before .before .if1 .left) (turns waitClock (then s t) (c .before .turn-to .ensures) refl) (c .answer2 .ensures)
+    let at-join = c .before .before in
+    let at-stand = at-join .before .before in
+    let at-if1 = at-stand .before .before .before in
+    let start = at-if1 .before .before .before in
+    let s = stood (start .pre .whole) (caller-place (start .pre) (at-if1 .if1 .left)) (at-stand .stand .ensures) in
+    let t = joined (s .whole) (omega arith) (at-join .join .ensures) in
+    wait-0 (start .pre) (at-if1 .if1 .left) (turns waitClock (then s t) (c .before .turn-to .ensures) refl) (c .answer2 .ensures)
 
 pub wait-clock-spec : {M : Type 1} → statement M
 wait-clock-spec =

@@ -23,13 +23,31 @@ next-number-requires : tie.Need-next-number-requires
 next-number-requires c κs = search needs
 
 seat-requires : tie.Need-seat-requires
-seat-requires c κs = (c .before .before .before .before .before .before .before .before .before .pre .whole, seat-place (c .before .before .before .before .before .before .before .before .before .pre) (c .before .before .before .before .before .before .before .before .count .ensures) (c .before .before .before .before .before .before .before .if1 .left) (c .before .before .before .before .before .before .lowest .ensures), seat-loose (c .before .before .before .before .before .before .before .before .before .pre) (c .before .before .before .before .before .before .before .before .count .ensures) (c .before .before .before .before .before .before .before .if1 .left) (c .before .before .before .before .before .before .lowest .ensures))
+seat-requires c κs =
+    let at-lowest = c .before .before .before .before .before .before in
+    let at-if1 = at-lowest .before in
+    let at-count = at-if1 .before in
+    let start = at-count .before in
+    (start .pre .whole, seat-place (start .pre) (at-count .count .ensures) (at-if1 .if1 .left) (at-lowest .lowest .ensures), seat-loose (start .pre) (at-count .count .ensures) (at-if1 .if1 .left) (at-lowest .lowest .ensures))
 
 with-requires : tie.Need-with-requires
-with-requires c κs = seat-place (c .before .before .before .before .before .before .before .before .before .before .pre) (c .before .before .before .before .before .before .before .before .before .count .ensures) (c .before .before .before .before .before .before .before .before .if1 .left) (c .before .before .before .before .before .before .before .lowest .ensures)
+with-requires c κs =
+    let at-lowest = c .before .before .before .before .before .before .before in
+    let at-if1 = at-lowest .before in
+    let at-count = at-if1 .before in
+    let start = at-count .before in
+    seat-place (start .pre) (at-count .count .ensures) (at-if1 .if1 .left) (at-lowest .lowest .ensures)
 
 returns-2 : tie.Need-returns-2
-returns-2 c = create-0 (c .before .before .before .before .before .before .before .before .before .before .before .before .pre) (c .before .before .before .before .before .before .before .before .before .before .before .count .ensures) (c .before .before .before .before .before .before .before .before .before .before .if1 .left) (c .before .before .before .before .before .before .before .before .before .lowest .ensures) (c .before .before .before .before .before .before .next-number .ensures) (c .before .before .seat .ensures) (c .before .with .ensures)
+returns-2 c =
+    let at-seat = c .before .before in
+    let at-next-number = at-seat .before .before .before .before in
+    let at-lowest = at-next-number .before .before .before in
+    let at-if1 = at-lowest .before in
+    let at-count = at-if1 .before in
+    let start = at-count .before in
+    create-0 (start .pre) (at-count .count .ensures) (at-if1 .if1 .left) (at-lowest .lowest .ensures) (at-next-number .next-number .ensures)
+    (at-seat .seat .ensures) (c .before .with .ensures)
 
 pub create-spec : {M : Type 1} → statement M
 create-spec =

@@ -23,7 +23,12 @@ find-requires : tie.Need-find-requires Inv-loop μ-loop
 find-requires c κs = search needs
 
 returns : tie.Need-returns Inv-loop μ-loop
-returns c = sym (c .before .before .before .before .before .loop .inv ∙ free-here _ _ _ (c .before .before .before .step .ensures) (c .before .before .find .ensures) (c .before .before .before .before .loop-test .taken) (c .if1 .taken))
+returns c =
+    let at-find = c .before .before in
+    let at-step = at-find .before in
+    let at-loop-test = at-step .before in
+    let at-loop = at-loop-test .before in
+    sym (at-loop .loop .inv ∙ free-here _ _ _ (at-step .step .ensures) (at-find .find .ensures) (at-loop-test .loop-test .taken) (c .if1 .taken))
 
 sub-left : tie.Need-sub-left Inv-loop μ-loop
 sub-left c = search needs
@@ -32,7 +37,12 @@ loop-less : tie.Need-loop-less Inv-loop μ-loop
 loop-less c = search needs
 
 loop-again : tie.Need-loop-again Inv-loop μ-loop
-loop-again c = c .before .before .before .before .before .loop .inv ∙ free-past _ _ _ (c .before .before .before .step .ensures) (c .before .before .find .ensures) (c .before .before .before .before .loop-test .taken) (c .if1 .left)
+loop-again c =
+    let at-find = c .before .before in
+    let at-step = at-find .before in
+    let at-loop-test = at-step .before in
+    let at-loop = at-loop-test .before in
+    at-loop .loop .inv ∙ free-past _ _ _ (at-step .step .ensures) (at-find .find .ensures) (at-loop-test .loop-test .taken) (c .if1 .left)
 
 returns-2 : tie.Need-returns-2 Inv-loop μ-loop
 returns-2 c = sym (c .before .loop .inv ∙ free-none _ _ _ (omega arith))

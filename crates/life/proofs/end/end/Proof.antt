@@ -17,19 +17,41 @@ answer-requires-2 : tie.Need-answer-requires-2
 answer-requires-2 c κs = search needs
 
 returns-2 : tie.Need-returns-2
-returns-2 c = end-4 (c .before .before .before .before .before .before .before .pre) _ (c .before .before .before .before .before .if1 .left) (c .before .before .before .find .ensures) (c .before .if2 .taken) (c .answer2 .ensures)
+returns-2 c =
+    let at-find = c .before .before .before in
+    let at-if1 = at-find .before .before in
+    let start = at-if1 .before .before in
+    end-4 (start .pre) _ (at-if1 .if1 .left) (at-find .find .ensures) (c .before .if2 .taken) (c .answer2 .ensures)
 
 end-at-requires : tie.Need-end-at-requires
-end-at-requires c κs = ends (c .before .before .before .before .before .before .before .before .before .pre) (c .before .before .before .before .before .before .before .before .before .args .n) (c .before .before .before .before .before .before .before .if1 .left) (c .before .before .before .before .before .find .ensures) (c .before .before .before .if2 .left)
+end-at-requires c κs =
+    let at-if2 = c .before .before .before in
+    let at-find = at-if2 .before .before in
+    let at-if1 = at-find .before .before in
+    let start = at-if1 .before .before in
+    ends (start .pre) (start .args .n) (at-if1 .if1 .left) (at-find .find .ensures) (at-if2 .if2 .left)
 
 less-requires : tie.Need-less-requires
-less-requires c κs = end-place (ends (c .before .before .before .before .before .before .before .before .before .before .pre) (c .before .before .before .before .before .before .before .before .before .before .args .n) (c .before .before .before .before .before .before .before .before .if1 .left) (c .before .before .before .before .before .before .find .ensures) (c .before .before .before .before .if2 .left))
+less-requires c κs =
+    let at-if2 = c .before .before .before .before in
+    let at-find = at-if2 .before .before in
+    let at-if1 = at-find .before .before in
+    let start = at-if1 .before .before in
+    end-place (ends (start .pre) (start .args .n) (at-if1 .if1 .left) (at-find .find .ensures) (at-if2 .if2 .left))
 
 answer-requires-3 : tie.Need-answer-requires-3
 answer-requires-3 c κs = search needs
 
 returns-3 : tie.Need-returns-3
-returns-3 c = end-0 (c .before .before .before .before .before .before .before .before .before .before .before .before .before .before .pre) (c .before .before .before .before .before .before .before .before .before .before .before .before .before .before .args .n) (c .before .before .before .before .before .before .before .before .before .before .before .before .if1 .left) (c .before .before .before .before .before .before .before .before .before .before .find .ensures) (c .before .before .before .before .before .before .before .before .if2 .left) (c .before .before .before .before .end-at .ensures) (c .before .before .before .less .ensures) (c .answer3 .ensures)
+returns-3 c =
+    let at-less = c .before .before .before in
+    let at-end-at = at-less .before in
+    let at-if2 = at-end-at .before .before .before .before in
+    let at-find = at-if2 .before .before in
+    let at-if1 = at-find .before .before in
+    let start = at-if1 .before .before in
+    end-0 (start .pre) (start .args .n) (at-if1 .if1 .left) (at-find .find .ensures) (at-if2 .if2 .left) (at-end-at .end-at .ensures)
+    (at-less .less .ensures) (c .answer3 .ensures)
 
 pub end-spec : {M : Type 1} → statement M
 end-spec =

@@ -8,19 +8,38 @@ add-hand-all-back : tie.Need-add-hand-all-back
 add-hand-all-back c = let h = end-place (c .before .before .before .before .pre) in omega arith
 
 hand-all-back-requires : tie.Need-hand-all-back-requires
-hand-all-back-requires c κs = let h = end-place (c .before .before .before .before .pre) in (c .before .before .before .before .pre .stands .whole, omega arith, omega arith)
+hand-all-back-requires c κs =
+    let start = c .before .before .before .before in
+    let h = end-place (start .pre) in
+    (start .pre .stands .whole, omega arith, omega arith)
 
 let-go-requires : tie.Need-let-go-requires
-let-go-requires c κs = (end-lies (c .before .before .before .before .before .before .before .before .pre) (c .before .before .before .hand-all-back .ensures), end-low (c .before .before .before .before .before .before .before .before .pre))
+let-go-requires c κs =
+    let at-hand-all-back = c .before .before .before in
+    let start = at-hand-all-back .before .before .before .before .before in
+    (end-lies (start .pre) (at-hand-all-back .hand-all-back .ensures), end-low (start .pre))
 
 out-of-line-requires : tie.Need-out-of-line-requires
-out-of-line-requires c κs = (c .before .before .let-go .ensures .whole .lines, end-place (c .before .before .before .before .before .before .before .before .before .before .before .pre), end-served (c .before .before .before .before .before .before .before .before .before .before .before .pre) (c .before .before .before .before .before .before .hand-all-back .ensures) (c .before .before .let-go .ensures))
+out-of-line-requires c κs =
+    let at-let-go = c .before .before in
+    let at-hand-all-back = at-let-go .before .before .before .before in
+    let start = at-hand-all-back .before .before .before .before .before in
+    (at-let-go .let-go .ensures .whole .lines, end-place (start .pre), end-served (start .pre) (at-hand-all-back .hand-all-back .ensures) (at-let-go .let-go .ensures))
 
 clean-requires : tie.Need-clean-requires
-clean-requires c κs = let k = c .before .before .before .before .before .let-go .ensures .whole in (record { blocks = k .blocks; words = k .words }, end-place (c .before .before .before .before .before .before .before .before .before .before .before .before .before .before .pre))
+clean-requires c κs =
+    let at-let-go = c .before .before .before .before .before in
+    let start = at-let-go .before .before .before .before .before .before .before .before .before in
+    let k = at-let-go .let-go .ensures .whole in
+    (record { blocks = k .blocks; words = k .words }, end-place (start .pre))
 
 returns : tie.Need-returns
-returns c = ended (c .before .before .before .before .before .before .before .before .before .before .before .before .before .before .before .pre) (c .before .before .before .before .before .before .before .before .before .before .hand-all-back .ensures) (c .before .before .before .before .before .before .let-go .ensures) (c .before .before .before .out-of-line .ensures) (c .clean .ensures)
+returns c =
+    let at-out-of-line = c .before .before .before in
+    let at-let-go = at-out-of-line .before .before .before in
+    let at-hand-all-back = at-let-go .before .before .before .before in
+    let start = at-hand-all-back .before .before .before .before .before in
+    ended (start .pre) (at-hand-all-back .hand-all-back .ensures) (at-let-go .let-go .ensures) (at-out-of-line .out-of-line .ensures) (c .clean .ensures)
 
 pub end-at-spec : {M : Type 1} → statement M
 end-at-spec =

@@ -21,7 +21,10 @@ hand-back-requires : tie.Need-hand-back-requires Inv-loop μ-loop
 hand-back-requires c κs = (c .before .before .before .loop .inv .whole, c .before .before .before .before .pre .1, c .before .before .before .before .pre .2)
 
 returns : tie.Need-returns Inv-loop μ-loop
-returns c = drain-end (c .before .before .before .before .before .loop .inv) (c .before .hand-back .ensures) (c .before .before .before .before .before .before .pre .2) (not-true _ (c .if1 .taken))
+returns c =
+    let at-loop = c .before .before .before .before .before in
+    let start = at-loop .before in
+    drain-end (at-loop .loop .inv) (c .before .hand-back .ensures) (start .pre .2) (not-true _ (c .if1 .taken))
 
 loop-less : tie.Need-loop-less Inv-loop μ-loop
 loop-less c = drain-less (c .before .before .before .before .before .loop .inv) (c .before .hand-back .ensures) (not-false _ (c .if1 .left))

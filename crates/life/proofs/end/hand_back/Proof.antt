@@ -10,15 +10,25 @@ pop-requires : tie.Need-pop-requires
 pop-requires c κs = search needs
 
 returns : tie.Need-returns
-returns c = first-none (backs (c .before .before .before .args .n .0)) (c .before .before .before .pre .2) (c .before .before .before .pre .0) (c .before .pop .ensures) (c .if1 .taken)
+returns c =
+    let start = c .before .before .before in
+    first-none (backs (start .args .n .0)) (start .pre .2) (start .pre .0) (c .before .pop .ensures) (c .if1 .taken)
 
 give-back-requires : tie.Need-give-back-requires
 give-back-requires c κs =
-    let n = somebody (c .before .before .before .before .before .before .pre .0) (c .before .before .before .before .before .before .pre .2) (c .before .before .before .before .pop .ensures) (c .before .before .before .if1 .left) in
-    (popped (c .before .before .before .before .before .before .pre .0) (c .before .before .before .before .before .before .pre .2) (c .before .before .before .before .pop .ensures) .whole, n .place, n .loose)
+    let at-if1 = c .before .before .before in
+    let at-pop = at-if1 .before in
+    let start = at-pop .before .before in
+    let n = somebody (start .pre .0) (start .pre .2) (at-pop .pop .ensures) (at-if1 .if1 .left) in
+    (popped (start .pre .0) (start .pre .2) (at-pop .pop .ensures) .whole, n .place, n .loose)
 
 returns-2 : tie.Need-returns-2
-returns-2 c = first-some (backs (c .before .before .before .before .before .before .before .args .n .0)) (c .before .before .before .before .before .before .before .pre .2) (c .before .before .before .before .before .before .before .pre .0) (c .before .before .before .before .before .pop .ensures) (backs-spare (c .before .before .before .before .before .before .before .args .n .0) (c .before .before .before .before .before .before .before .args .q) (c .before .before .before .before .before .before .before .pre .1)) (c .before .before .before .before .if1 .left) (c .give-back .ensures)
+returns-2 c =
+    let at-if1 = c .before .before .before .before in
+    let at-pop = at-if1 .before in
+    let start = at-pop .before .before in
+    first-some (backs (start .args .n .0)) (start .pre .2) (start .pre .0) (at-pop .pop .ensures)
+    (backs-spare (start .args .n .0) (start .args .q) (start .pre .1)) (at-if1 .if1 .left) (c .give-back .ensures)
 
 pub hand-back-spec : {M : Type 1} → statement M
 hand-back-spec = tie.close (tie.spec pop-requires returns give-back-requires returns-2)

@@ -9,13 +9,23 @@ awaits-requires : tie.Need-awaits-requires
 awaits-requires c κs = search needs
 
 returns : tie.Need-returns
-returns c = let-not (c .before .before .before .pre .0) (c .before .before .before .args .n .0) (c .before .before .before .pre .1) (c .before .awaits .ensures) (not-true _ (c .if1 .taken))
+returns c =
+    let start = c .before .before .before in
+    let-not (start .pre .0) (start .args .n .0) (start .pre .1) (c .before .awaits .ensures) (not-true _ (c .if1 .taken))
 
 give-back-requires : tie.Need-give-back-requires
-give-back-requires c κs = (c .before .before .before .before .before .before .pre .0 .whole, c .before .before .before .before .before .before .pre .1, let-loose (c .before .before .before .before .before .before .pre .0) (c .before .before .before .before .before .before .args .n .0) (c .before .before .before .before .before .before .pre .1) (c .before .before .before .before .awaits .ensures) (not-false _ (c .before .before .before .if1 .left)))
+give-back-requires c κs =
+    let at-if1 = c .before .before .before in
+    let at-awaits = at-if1 .before in
+    let start = at-awaits .before .before in
+    (start .pre .0 .whole, start .pre .1, let-loose (start .pre .0) (start .args .n .0) (start .pre .1) (at-awaits .awaits .ensures) (not-false _ (at-if1 .if1 .left)))
 
 returns-2 : tie.Need-returns-2
-returns-2 c = let-yes (c .before .before .before .before .before .before .before .pre .0) (c .before .before .before .before .before .before .before .args .n .0) (c .before .before .before .before .before .before .before .pre .1) (c .before .before .before .before .before .awaits .ensures) (not-false _ (c .before .before .before .before .if1 .left)) (c .give-back .ensures)
+returns-2 c =
+    let at-if1 = c .before .before .before .before in
+    let at-awaits = at-if1 .before in
+    let start = at-awaits .before .before in
+    let-yes (start .pre .0) (start .args .n .0) (start .pre .1) (at-awaits .awaits .ensures) (not-false _ (at-if1 .if1 .left)) (c .give-back .ensures)
 
 pub let-one-spec : {M : Type 1} → statement M
 let-one-spec = tie.close (tie.spec awaits-requires returns give-back-requires returns-2)

@@ -18,16 +18,37 @@ find-requires : tie.Need-find-requires
 find-requires c κs = search needs
 
 add-result : tie.Need-add-result
-add-result c = let h = sent-low (c .before .before .before .before .before .before .args .b .now) (c .before .before .before .before .before .before .args .p .0) (c .before .before .before .before .before .before .pre .1) (c .before .before .before .before .before .standing-of .ensures) (c .before .before .before .if2 .taken) (c .before .before .partner-of .ensures) (c .before .find .ensures) in omega arith
+add-result c =
+    let at-partner-of = c .before .before in
+    let at-if2 = at-partner-of .before in
+    let at-standing-of = at-if2 .before .before in
+    let start = at-standing-of .before in
+    let h = sent-low (start .args .b .now) (start .args .p .0) (start .pre .1) (at-standing-of .standing-of .ensures) (at-if2 .if2 .taken) (at-partner-of .partner-of .ensures) (c .before .find .ensures) in
+    omega arith
 
 returns-2 : tie.Need-returns-2
-returns-2 c = line-sending (c .before .before .before .before .before .before .args .b .now) (c .before .before .before .before .before .before .args .p .0) (c .before .before .before .before .before .standing-of .ensures) (c .before .before .before .before .if1 .left) (c .before .before .before .if2 .taken) (c .before .before .partner-of .ensures) (c .before .find .ensures)
+returns-2 c =
+    let at-partner-of = c .before .before in
+    let at-if2 = at-partner-of .before in
+    let at-if1 = at-if2 .before in
+    let at-standing-of = at-if1 .before in
+    let start = at-standing-of .before in
+    line-sending (start .args .b .now) (start .args .p .0) (at-standing-of .standing-of .ensures) (at-if1 .if1 .left) (at-if2 .if2 .taken)
+    (at-partner-of .partner-of .ensures) (c .before .find .ensures)
 
 returns-3 : tie.Need-returns-3
-returns-3 c = line-waiting (c .before .before .before .before .args .b .now) (c .before .before .before .before .args .p .0) (c .before .before .before .standing-of .ensures) (c .before .before .if1 .left) (c .before .if2 .left) (c .if3 .taken)
+returns-3 c =
+    let at-if1 = c .before .before in
+    let at-standing-of = at-if1 .before in
+    let start = at-standing-of .before in
+    line-waiting (start .args .b .now) (start .args .p .0) (at-standing-of .standing-of .ensures) (at-if1 .if1 .left) (c .before .if2 .left) (c .if3 .taken)
 
 returns-4 : tie.Need-returns-4
-returns-4 c = line-none (c .before .before .before .before .args .b .now) (c .before .before .before .before .args .p .0) (c .before .before .before .standing-of .ensures) (c .before .before .if1 .left) (c .before .if2 .left) (c .if3 .left)
+returns-4 c =
+    let at-if1 = c .before .before in
+    let at-standing-of = at-if1 .before in
+    let start = at-standing-of .before in
+    line-none (start .args .b .now) (start .args .p .0) (at-standing-of .standing-of .ensures) (at-if1 .if1 .left) (c .before .if2 .left) (c .if3 .left)
 
 pub line-of-spec : {M : Type 1} → statement M
 line-of-spec =

@@ -18,13 +18,26 @@ line-of-requires : tie.Need-line-of-requires
 line-of-requires c κs = (c .before .before .pre .1, c .before .before .pre .2)
 
 returns-2 : tie.Need-returns-2
-returns-2 c = leaves-not _ _ _ (c .before .before .before .before .pre .1) (c .before .before .before .before .pre .2) (λ z. c .before .before .if1 .left (c .before .before .before .standing-of .ensures ∙ z)) (c .before .line-of .ensures) (c .if2 .taken)
+returns-2 c =
+    let at-if1 = c .before .before in
+    let at-standing-of = at-if1 .before in
+    let start = at-standing-of .before in
+    leaves-not _ _ _ (start .pre .1) (start .pre .2) (λ z. at-if1 .if1 .left (at-standing-of .standing-of .ensures ∙ z)) (c .before .line-of .ensures) (c .if2 .taken)
 
 leave-requires : tie.Need-leave-requires
-leave-requires c κs = (c .before .before .before .before .before .pre .0, leaves-low (c .before .before .before .before .before .args .b .now) (c .before .before .before .before .before .args .p .0) (c .before .before .before .before .before .pre .2) (c .before .before .line-of .ensures) (c .before .if2 .left), c .before .before .before .before .before .pre .1)
+leave-requires c κs =
+    let at-line-of = c .before .before in
+    let start = at-line-of .before .before .before in
+    (start .pre .0, leaves-low (start .args .b .now) (start .args .p .0) (start .pre .2) (at-line-of .line-of .ensures) (c .before .if2 .left), start .pre .1)
 
 returns-3 : tie.Need-returns-3
-returns-3 c = leaves-line _ _ _ (c .before .before .before .before .before .before .pre .1) (c .before .before .before .before .before .before .pre .2) (λ z. c .before .before .before .before .if1 .left (c .before .before .before .before .before .standing-of .ensures ∙ z)) (c .before .before .before .line-of .ensures) (c .before .before .if2 .left) (c .leave .ensures)
+returns-3 c =
+    let at-if2 = c .before .before in
+    let at-line-of = at-if2 .before in
+    let at-if1 = at-line-of .before in
+    let at-standing-of = at-if1 .before in
+    let start = at-standing-of .before in
+    leaves-line _ _ _ (start .pre .1) (start .pre .2) (λ z. at-if1 .if1 .left (at-standing-of .standing-of .ensures ∙ z)) (at-line-of .line-of .ensures) (at-if2 .if2 .left) (c .leave .ensures)
 
 pub out-of-line-spec : {M : Type 1} → statement M
 out-of-line-spec =

@@ -31,8 +31,11 @@ shared-slice-read-if2-2 c = search needs
 
 returns-2 : tie.Need-returns-2 Inv-loop μ-loop
 returns-2 c =
-    let a = c .before .before .before .before .before .before .args in
-    tells-no (equal-not (a .image .now) (a .out .now) (a .n) (c .before .before .before .before .before .before .pre) (c .before .before .before .before .loop .i) (c .before .before .before .loop-test .taken) (c .if2 .taken))
+    let at-loop-test = c .before .before .before in
+    let at-loop = at-loop-test .before in
+    let start = at-loop .before .before in
+    let a = start .args in
+    tells-no (equal-not (a .image .now) (a .out .now) (a .n) (start .pre) (at-loop .loop .i) (at-loop-test .loop-test .taken) (c .if2 .taken))
 
 add-i : tie.Need-add-i Inv-loop μ-loop
 add-i c = search needs
@@ -42,8 +45,11 @@ loop-less c = search needs
 
 loop-again : tie.Need-loop-again Inv-loop μ-loop
 loop-again c =
-    let a = c .before .before .before .before .before .before .args in
-    (search needs, equal-more (a .image .now) (a .out .now) (a .n) (c .before .before .before .before .before .before .pre) (c .before .before .before .before .loop .i) (c .before .before .before .loop-test .taken) (omega arith) (c .before .before .before .before .loop .inv .1) (c .if2 .left))
+    let at-loop-test = c .before .before .before in
+    let at-loop = at-loop-test .before in
+    let start = at-loop .before .before in
+    let a = start .args in
+    (search needs, equal-more (a .image .now) (a .out .now) (a .n) (start .pre) (at-loop .loop .i) (at-loop-test .loop-test .taken) (omega arith) (at-loop .loop .inv .1) (c .if2 .left))
 
 returns-3 : tie.Need-returns-3 Inv-loop μ-loop
 returns-3 c =

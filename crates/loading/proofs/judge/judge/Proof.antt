@@ -17,7 +17,10 @@ refuse-requires : tie.Need-refuse-requires
 refuse-requires c κs = search needs
 
 returns : tie.Need-returns
-returns c = foreign (foreign-not (c .before .before .before .candidate .ensures) (c .before .before .consistent .ensures .no (not-true _ (c .before .if1 .taken)))) (c .refuse .ensures)
+returns c =
+    let at-consistent = c .before .before in
+    let at-candidate = at-consistent .before in
+    foreign (foreign-not (at-candidate .candidate .ensures) (at-consistent .consistent .ensures .no (not-true _ (c .before .if1 .taken)))) (c .refuse .ensures)
 
 same-requires : tie.Need-same-requires
 same-requires c κs = c .before .consistent .ensures .yes (not-false _ (c .if1 .left))
@@ -26,7 +29,10 @@ refuse-requires-2 : tie.Need-refuse-requires-2
 refuse-requires-2 c κs = search needs
 
 returns-2 : tie.Need-returns-2
-returns-2 c = foreign (foreign-other (c .before .before .before .before .before .candidate .ensures) (c .before .before .same .ensures .no (not-true _ (c .before .if2 .taken)))) (c .refuse2 .ensures)
+returns-2 c =
+    let at-same = c .before .before in
+    let at-candidate = at-same .before .before .before in
+    foreign (foreign-other (at-candidate .candidate .ensures) (at-same .same .ensures .no (not-true _ (c .before .if2 .taken)))) (c .refuse2 .ensures)
 
 returns-3 : tie.Need-returns-3
 returns-3 c = accepted (record {

@@ -11,7 +11,10 @@ slice-aggregate-write : tie.Need-slice-aggregate-write
 slice-aggregate-write c = search needs
 
 write-requires : tie.Need-write-requires
-write-requires c κs = (rw (c .before .before .before .before .before .before .before .desk .ensures) (c .before .before .before .before .before .before .before .before .before .pre), search needs)
+write-requires c κs =
+    let at-desk = c .before .before .before .before .before .before .before in
+    let start = at-desk .before .before in
+    (rw (at-desk .desk .ensures) (start .pre), search needs)
 
 slice-aggregate-equal : tie.Need-slice-aggregate-equal
 slice-aggregate-equal c = search needs
@@ -20,7 +23,10 @@ equal-requires : tie.Need-equal-requires
 equal-requires c κs = written-room (c .before .before .write .ensures)
 
 returns : tie.Need-returns
-returns c = written-tells (rw (c .before .before .before .before .before .before .before .before .before .before .before .desk .ensures) at (c .before .before .before .write .ensures)) (c .equal .ensures)
+returns c =
+    let at-write = c .before .before .before in
+    let at-desk = at-write .before .before .before .before .before .before .before .before in
+    written-tells (rw (at-desk .desk .ensures) at (at-write .write .ensures)) (c .equal .ensures)
 
 pub same-spec : {M : Type 1} → statement M
 same-spec =

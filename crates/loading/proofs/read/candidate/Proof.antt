@@ -34,8 +34,15 @@ at-requires-3 c κs = search needs
 
 returns : tie.Need-returns
 returns c =
-    candidate-shows (c .before .before .before .before .before .before .before .before .before .before .before .before .before .clear .ensures) (c .before .before .before .before .before .before .before .before .before .before .before .before .fresh .ensures) (c .before .before .before .before .before .before .before .before .before .before .queues .ensures) (c .before .before .before .before .entries .ensures)
-    (c .before .before .before .before .before .before .before .before .wide .ensures .0 ∙ c .before .before .before .before .before .before .before .before .before .at .ensures) (c .before .before .filling .ensures) (c .before .at2 .ensures) (c .at3 .ensures)
+    let at-filling = c .before .before in
+    let at-entries = at-filling .before .before in
+    let at-wide = at-entries .before .before .before .before in
+    let at-at = at-wide .before in
+    let at-queues = at-at .before in
+    let at-fresh = at-queues .before .before in
+    let at-clear = at-fresh .before in
+    candidate-shows (at-clear .clear .ensures) (at-fresh .fresh .ensures) (at-queues .queues .ensures) (at-entries .entries .ensures)
+    (at-wide .wide .ensures .0 ∙ at-at .at .ensures) (at-filling .filling .ensures) (c .before .at2 .ensures) (c .at3 .ensures)
 
 pub candidate-spec : {M : Type 1} → statement M
 candidate-spec =

@@ -15,7 +15,8 @@ abbrev μ-loop : tie.MeasureT-loop
 μ-loop image from count q l₀ i₀ l i = count - i
 
 loop-holds : tie.Need-loop-holds Inv-loop μ-loop
-loop-holds c = (omega arith, joined-none (c .before .args .image .now) (c .before .args .from) (c .before .args .count) (c .before .args .q) (c .before .args .l .now))
+loop-holds c =
+    (omega arith, joined-none (c .before .args .image .now) (c .before .args .from) (c .before .args .count) (c .before .args .q) (c .before .args .l .now))
 
 add-at : tie.Need-add-at Inv-loop μ-loop
 add-at c = search needs
@@ -34,8 +35,11 @@ loop-less c = search needs
 
 loop-again : tie.Need-loop-again Inv-loop μ-loop
 loop-again c =
-    let a = c .before .before .before .before .before .before .args in
-    (search needs, joined-more (a .image .now) (a .from) (a .count) (a .q) (c .before .before .before .before .before .before .pre .0) (c .before .before .before .loop-test .taken) (c .before .before .before .before .loop .inv .1) (rw (c .before .at .ensures) at (c .hang .ensures)))
+    let at-loop-test = c .before .before .before in
+    let at-loop = at-loop-test .before in
+    let start = at-loop .before .before in
+    let a = start .args in
+    (search needs, joined-more (a .image .now) (a .from) (a .count) (a .q) (start .pre .0) (at-loop-test .loop-test .taken) (at-loop .loop .inv .1) (rw (c .before .at .ensures) at (c .hang .ensures)))
 
 returns : tie.Need-returns Inv-loop μ-loop
 returns c = let e : c .before .loop .i ≡ c .before .before .before .args .count = omega arith in rw e at (c .before .loop .inv .1)

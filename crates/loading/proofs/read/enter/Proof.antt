@@ -56,8 +56,14 @@ enqueue-requires c κs = search needs
 
 returns-2 : tie.Need-returns-2
 returns-2 c =
-    entered-one (c .before .before .before .before .seat .ensures) (c .enqueue .ensures) (c .before .before .before .before .before .before .before .before .before .before .before .at .ensures) (c .before .before .before .before .before .before .before .at2 .ensures) (c .before .before .before .before .before .before .before .before .two .ensures .0)
-    (c .before .before .wide2 .ensures .0 ∙ c .before .before .before .at3 .ensures)
+    let at-wide2 = c .before .before in
+    let at-at3 = at-wide2 .before in
+    let at-seat = at-at3 .before in
+    let at-at2 = at-seat .before .before .before in
+    let at-two = at-at2 .before in
+    let at-at = at-two .before .before .before in
+    entered-one (at-seat .seat .ensures) (c .enqueue .ensures) (at-at .at .ensures) (at-at2 .at2 .ensures) (at-two .two .ensures .0)
+    (at-wide2 .wide2 .ensures .0 ∙ at-at3 .at3 .ensures)
 
 pub enter-spec : {M : Type 1} → statement M
 enter-spec =

@@ -40,8 +40,16 @@ enqueue-requires-2 c κs = search needs
 
 returns : tie.Need-returns
 returns c =
-    queued (c .before .before .enqueue .ensures) (c .enqueue2 .ensures) (c .before .before .before .before .before .before .before .before .wide .ensures .0 ∙ c .before .before .before .before .before .before .before .before .before .at .ensures) (c .before .before .before .before .before .before .wide2 .ensures .0 ∙ c .before .before .before .before .before .before .before .at2 .ensures)
-    (c .before .before .before .before .wide3 .ensures .0 ∙ c .before .before .before .before .before .at3 .ensures)
+    let at-enqueue = c .before .before in
+    let at-wide3 = at-enqueue .before .before in
+    let at-at3 = at-wide3 .before in
+    let at-wide2 = at-at3 .before in
+    let at-at2 = at-wide2 .before in
+    let at-wide = at-at2 .before in
+    let at-at = at-wide .before in
+    queued (at-enqueue .enqueue .ensures) (c .enqueue2 .ensures) (at-wide .wide .ensures .0 ∙ at-at .at .ensures)
+    (at-wide2 .wide2 .ensures .0 ∙ at-at2 .at2 .ensures)
+    (at-wide3 .wide3 .ensures .0 ∙ at-at3 .at3 .ensures)
 
 pub queues-spec : {M : Type 1} → statement M
 queues-spec =

@@ -48,17 +48,25 @@ tell-requires c κs = search needs
 
 returns : tie.Need-returns
 returns c =
-    let a = c .before .before .before .before .before .before .before .before .before .before .before .before .before .before .before .args in
-    let k = c .before .before .before .before .before .before .before .before .before .before .before .before .before .before .before .pre in
-    seated (k .2) (k .1) (a .image .now) (a .o) (c .before .before .before .before .before .before .before .before .before .before .before .before .name .ensures) (c .before .before .before .before .before .before .stand .ensures) (c .tell .ensures)
+    let at-word2 = c .before .before .before .before in
+    let at-at3 = at-word2 .before in
+    let at-stand = at-at3 .before in
+    let at-at2 = at-stand .before in
+    let at-word = at-at2 .before .before .before in
+    let at-at = at-word .before in
+    let at-name = at-at .before in
+    let start = at-name .before .before .before in
+    let a = start .args in
+    let k = start .pre in
+    seated (k .2) (k .1) (a .image .now) (a .o) (at-name .name .ensures) (at-stand .stand .ensures) (c .tell .ensures)
     (λ i. record {
       number = a .n .0;
-      standing = (c .before .before .before .before .before .before .before .at2 .ensures) i;
-      partner = (c .before .before .before .before .before .before .before .before .before .before .before .at .ensures) i;
-      word = (c .before .before .before .before .before .before .before .before .before .before .word .ensures) i;
+      standing = (at-at2 .at2 .ensures) i;
+      partner = (at-at .at .ensures) i;
+      word = (at-word .word .ensures) i;
       code = (c .before .at4 .ensures) i;
-      who = (c .before .before .before .before .before .at3 .ensures) i;
-      answer = (c .before .before .before .before .word2 .ensures) i;
+      who = (at-at3 .at3 .ensures) i;
+      answer = (at-word2 .word2 .ensures) i;
     })
 
 pub seat-spec : {M : Type 1} → statement M

@@ -18,7 +18,11 @@ lay-requires : tie.Need-lay-requires
 lay-requires c κs = search needs
 
 returns : tie.Need-returns
-returns c = meets (c .before .before .before .before .before .before .before .before .before .before .before .before .before .before .args .e) (c .before .choose .result) (c .before .before .before .before .before .before .before .before .before .before .before .before .before .desk .ensures) (c .before .before .before .before .before .before .run .ensures) (c .before .choose .ensures) (c .lay .ensures)
+returns c =
+    let at-run = c .before .before .before .before .before .before in
+    let at-desk = at-run .before .before .before .before .before .before .before in
+    let start = at-desk .before in
+    meets (start .args .e) (c .before .choose .result) (at-desk .desk .ensures) (at-run .run .ensures) (c .before .choose .ensures) (c .lay .ensures)
 
 pub act-spec : {M : Type 1} → statement M
 act-spec = tie.close (tie.spec desk-requires run-requires choose-requires lay-requires returns)

@@ -25,18 +25,27 @@ vacancy-requires-2 c κs = search needs
 
 returns-2 : tie.Need-returns-2
 returns-2 c =
-    let a = c .before .before .before .before .before .args in
+    let at-if1 = c .before .before .before in
+    let at-consistent = at-if1 .before in
+    let start = at-consistent .before in
+    let a = start .args in
     let s = a .self in
-    held (c .before .before .before .before .consistent .ensures .yes (not-false _ (c .before .before .before .if1 .left))) (c .vacancy2 .ensures ∙ sym (thread-past (deskOf s) (s .blocks) (s .words) (s .lines) (a .p .0) (c .before .if2 .taken)))
+    held (at-consistent .consistent .ensures .yes (not-false _ (at-if1 .if1 .left)))
+    (c .vacancy2 .ensures ∙ sym (thread-past (deskOf s) (s .blocks) (s .words) (s .lines) (a .p .0) (c .before .if2 .taken)))
 
 read-requires : tie.Need-read-requires
 read-requires c κs = search needs
 
 returns-3 : tie.Need-returns-3
 returns-3 c =
-    let a = c .before .before .before .before .before .before .before .before .before .args in
+    let at-if2 = c .before .before .before .before .before in
+    let at-if1 = at-if2 .before .before in
+    let at-consistent = at-if1 .before in
+    let start = at-consistent .before in
+    let a = start .args in
     let s = a .self in
-    held (c .before .before .before .before .before .before .before .before .consistent .ensures .yes (not-false _ (c .before .before .before .before .before .before .before .if1 .left))) (c .read .ensures ∙ sym (thread-at (s .last .0) (s .running .0) (s .blocks) (s .words) (s .lines) (a .p .0) (c .before .before .before .before .before .if2 .left)))
+    held (at-consistent .consistent .ensures .yes (not-false _ (at-if1 .if1 .left)))
+    (c .read .ensures ∙ sym (thread-at (s .last .0) (s .running .0) (s .blocks) (s .words) (s .lines) (a .p .0) (at-if2 .if2 .left)))
 
 pub thread-spec : {M : Type 1} → statement M
 thread-spec =

@@ -23,16 +23,35 @@ number-of-requires : tie.Need-number-of-requires Inv-loop μ-loop
 number-of-requires c κs = pick-place (c .before .loop .inv) (c .before .before .before .pre .0) (c .before .before .before .pre .1) (c .loop-test .taken)
 
 returns : tie.Need-returns Inv-loop μ-loop
-returns c = pick-here (c .before .before .before .before .before .before .loop .inv) (c .before .before .before .before .before .before .before .before .pre .0) (c .before .before .before .before .before .before .before .before .pre .1) (c .before .before .before .before .before .loop-test .taken) (c .before .before .before .before .number-of .ensures) (c .if1 .taken)
+returns c =
+    let at-number-of = c .before .before .before .before in
+    let at-loop-test = at-number-of .before in
+    let at-loop = at-loop-test .before in
+    let start = at-loop .before .before in
+    pick-here (at-loop .loop .inv) (start .pre .0) (start .pre .1) (at-loop-test .loop-test .taken) (at-number-of .number-of .ensures) (c .if1 .taken)
 
 after-requires : tie.Need-after-requires Inv-loop μ-loop
-after-requires c κs = (c .before .before .before .before .before .before .before .before .pre .0, pick-place (c .before .before .before .before .before .before .loop .inv) (c .before .before .before .before .before .before .before .before .pre .0) (c .before .before .before .before .before .before .before .before .pre .1) (c .before .before .before .before .before .loop-test .taken))
+after-requires c κs =
+    let at-loop-test = c .before .before .before .before .before in
+    let at-loop = at-loop-test .before in
+    let start = at-loop .before .before in
+    (start .pre .0, pick-place (at-loop .loop .inv) (start .pre .0) (start .pre .1) (at-loop-test .loop-test .taken))
 
 loop-less : tie.Need-loop-less Inv-loop μ-loop
-loop-less c = pick-less (c .before .before .before .before .before .before .before .loop .inv) (c .before .before .before .before .before .before .before .before .before .pre .0) (c .before .before .before .before .before .before .before .before .before .pre .1) (c .before .before .before .before .before .before .loop-test .taken) (c .after .ensures)
+loop-less c =
+    let at-loop-test = c .before .before .before .before .before .before in
+    let at-loop = at-loop-test .before in
+    let start = at-loop .before .before in
+    pick-less (at-loop .loop .inv) (start .pre .0) (start .pre .1) (at-loop-test .loop-test .taken) (c .after .ensures)
 
 loop-again : tie.Need-loop-again Inv-loop μ-loop
-loop-again c = pick-again (c .before .before .before .before .before .before .before .loop .inv) (c .before .before .before .before .before .before .before .before .before .pre .0) (c .before .before .before .before .before .before .before .before .before .pre .1) (c .before .before .before .before .before .before .loop-test .taken) (c .after .ensures) (c .before .before .before .before .before .number-of .ensures) (c .before .if1 .left)
+loop-again c =
+    let at-number-of = c .before .before .before .before .before in
+    let at-loop-test = at-number-of .before in
+    let at-loop = at-loop-test .before in
+    let start = at-loop .before .before in
+    pick-again (at-loop .loop .inv) (start .pre .0) (start .pre .1) (at-loop-test .loop-test .taken) (c .after .ensures)
+    (at-number-of .number-of .ensures) (c .before .if1 .left)
 
 returns-2 : tie.Need-returns-2 Inv-loop μ-loop
 returns-2 c = pick-end (c .before .loop .inv) (c .before .before .before .pre .0) (c .before .before .before .pre .1) (omega (arith, c .loop-test .left))

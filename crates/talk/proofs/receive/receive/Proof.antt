@@ -15,22 +15,35 @@ answer-requires : tie.Need-answer-requires
 answer-requires c κs = search needs
 
 returns : tie.Need-returns
-returns c = receive-not (c .before .before .before .before .pre) (c .before .before .before .before .args .from) (c .before .before .source .ensures) (c .before .if1 .taken) (c .answer .ensures)
+returns c =
+    let at-source = c .before .before in
+    let start = at-source .before .before in
+    receive-not (start .pre) (start .args .from) (at-source .source .ensures) (c .before .if1 .taken) (c .answer .ensures)
 
 add-pick : tie.Need-add-pick
 add-pick c =
-    let z = receive-busy (c .before .before .before .before .before .before .before .pre) (c .before .before .before .before .before .before .before .args .from) (c .before .before .before .before .before .source .ensures) (omega (arith, c .before .before .before .before .if1 .left)) in
-    let h = caller-place (c .before .before .before .before .before .before .before .pre) z in
+    let at-if1 = c .before .before .before .before in
+    let at-source = at-if1 .before in
+    let start = at-source .before .before in
+    let z = receive-busy (start .pre) (start .args .from) (at-source .source .ensures) (omega (arith, at-if1 .if1 .left)) in
+    let h = caller-place (start .pre) z in
     omega arith
 
 pick-requires : tie.Need-pick-requires
 pick-requires c κs =
-    let z = receive-busy (c .before .before .before .before .before .before .before .pre) (c .before .before .before .before .before .before .before .args .from) (c .before .before .before .before .before .source .ensures) (omega (arith, c .before .before .before .before .if1 .left)) in
-    let h = caller-place (c .before .before .before .before .before .before .before .pre) z in
-    (c .before .before .before .before .before .before .before .pre .whole .lines, omega arith)
+    let at-if1 = c .before .before .before .before in
+    let at-source = at-if1 .before in
+    let start = at-source .before .before in
+    let z = receive-busy (start .pre) (start .args .from) (at-source .source .ensures) (omega (arith, at-if1 .if1 .left)) in
+    let h = caller-place (start .pre) z in
+    (start .pre .whole .lines, omega arith)
 
 stand-requires : tie.Need-stand-requires
-stand-requires c κs = caller-place (c .before .before .before .before .before .before .before .before .before .before .before .before .pre) (receive-busy (c .before .before .before .before .before .before .before .before .before .before .before .before .pre) (c .before .before .before .before .before .before .before .before .before .before .before .before .args .from) (c .before .before .before .before .before .before .before .before .before .before .source .ensures) (omega (arith, c .before .before .before .before .before .before .before .before .before .if1 .left)))
+stand-requires c κs =
+    let at-if1 = c .before .before .before .before .before .before .before .before .before in
+    let at-source = at-if1 .before in
+    let start = at-source .before .before in
+    caller-place (start .pre) (receive-busy (start .pre) (start .args .from) (at-source .source .ensures) (omega (arith, at-if1 .if1 .left)))
 
 turn-to-requires : tie.Need-turn-to-requires
 turn-to-requires c κs = search needs
@@ -40,22 +53,41 @@ answer-requires-2 c κs = search needs
 
 returns-2 : tie.Need-returns-2
 returns-2 c =
-    let z = receive-busy (c .before .before .before .before .before .before .before .before .before .before .before .before .before .before .before .pre) (c .before .before .before .before .before .before .before .before .before .before .before .before .before .before .before .args .from) (c .before .before .before .before .before .before .before .before .before .before .before .before .before .source .ensures) (omega (arith, c .before .before .before .before .before .before .before .before .before .before .before .before .if1 .left)) in
-    let s = stood (c .before .before .before .before .before .before .before .before .before .before .before .before .before .before .before .pre .whole) (caller-place (c .before .before .before .before .before .before .before .before .before .before .before .before .before .before .before .pre) z) (c .before .before .stand .ensures) in
-    receive-0 (c .before .before .before .before .before .before .before .before .before .before .before .before .before .before .before .pre) (c .before .before .before .before .before .before .before .before .before .before .before .before .before .before .before .args .from) (c .before .before .before .before .before .before .before .before .before .before .before .before .before .source .ensures) (omega (arith, c .before .before .before .before .before .before .before .before .before .before .before .before .if1 .left)) (receives (c .before .before .before .before .before .before .before .before .before .before .before .before .before .before .before .pre) z (c .before .before .before .before .before .before .before .before .before .before .before .before .before .before .before .args .from .0) (c .before .before .before .before .before .before .before .pick .ensures) (c .before .before .before .before .before .if2 .taken) s (c .before .turn-to .ensures)) (c .answer2 .ensures)
+    let at-stand = c .before .before in
+    let at-if2 = at-stand .before .before .before in
+    let at-pick = at-if2 .before .before in
+    let at-if1 = at-pick .before .before .before .before .before in
+    let at-source = at-if1 .before in
+    let start = at-source .before .before in
+    let z = receive-busy (start .pre) (start .args .from) (at-source .source .ensures) (omega (arith, at-if1 .if1 .left)) in
+    let s = stood (start .pre .whole) (caller-place (start .pre) z) (at-stand .stand .ensures) in
+    receive-0 (start .pre) (start .args .from) (at-source .source .ensures) (omega (arith, at-if1 .if1 .left))
+    (receives (start .pre) z (start .args .from .0) (at-pick .pick .ensures) (at-if2 .if2 .taken) s (c .before .turn-to .ensures))
+    (c .answer2 .ensures)
 
 take-requires : tie.Need-take-requires
 take-requires c κs =
-    let z = receive-busy (c .before .before .before .before .before .before .before .before .before .before .before .before .before .pre) (c .before .before .before .before .before .before .before .before .before .before .before .before .before .args .from) (c .before .before .before .before .before .before .before .before .before .before .before .source .ensures) (omega (arith, c .before .before .before .before .before .before .before .before .before .before .if1 .left)) in
-    (c .before .before .before .before .before .before .before .before .before .before .before .before .before .pre .whole, caller-place (c .before .before .before .before .before .before .before .before .before .before .before .before .before .pre) z, match-place (c .before .before .before .before .before .before .before .before .before .before .before .before .before .pre) z (c .before .before .before .before .before .before .before .before .before .before .before .before .before .args .from .0) (c .before .before .before .before .before .pick .ensures) (c .before .before .before .if2 .left))
+    let at-if2 = c .before .before .before in
+    let at-pick = at-if2 .before .before in
+    let at-if1 = at-pick .before .before .before .before .before in
+    let at-source = at-if1 .before in
+    let start = at-source .before .before in
+    let z = receive-busy (start .pre) (start .args .from) (at-source .source .ensures) (omega (arith, at-if1 .if1 .left)) in
+    (start .pre .whole, caller-place (start .pre) z, match-place (start .pre) z (start .args .from .0) (at-pick .pick .ensures) (at-if2 .if2 .left))
 
 answer-requires-3 : tie.Need-answer-requires-3
 answer-requires-3 c κs = search needs
 
 returns-3 : tie.Need-returns-3
 returns-3 c =
-    let z = receive-busy (c .before .before .before .before .before .before .before .before .before .before .before .before .before .before .before .pre) (c .before .before .before .before .before .before .before .before .before .before .before .before .before .before .before .args .from) (c .before .before .before .before .before .before .before .before .before .before .before .before .before .source .ensures) (omega (arith, c .before .before .before .before .before .before .before .before .before .before .before .before .if1 .left)) in
-    receive-0 (c .before .before .before .before .before .before .before .before .before .before .before .before .before .before .before .pre) (c .before .before .before .before .before .before .before .before .before .before .before .before .before .before .before .args .from) (c .before .before .before .before .before .before .before .before .before .before .before .before .before .source .ensures) (omega (arith, c .before .before .before .before .before .before .before .before .before .before .before .before .if1 .left)) (received (c .before .before .before .before .before .before .before .before .before .before .before .before .before .before .before .pre) z (c .before .before .before .before .before .before .before .before .before .before .before .before .before .before .before .args .from .0) (c .before .before .before .before .before .before .before .pick .ensures) (c .before .before .before .before .before .if2 .left) (c .before .take .ensures)) (c .answer3 .ensures)
+    let at-if2 = c .before .before .before .before .before in
+    let at-pick = at-if2 .before .before in
+    let at-if1 = at-pick .before .before .before .before .before in
+    let at-source = at-if1 .before in
+    let start = at-source .before .before in
+    let z = receive-busy (start .pre) (start .args .from) (at-source .source .ensures) (omega (arith, at-if1 .if1 .left)) in
+    receive-0 (start .pre) (start .args .from) (at-source .source .ensures) (omega (arith, at-if1 .if1 .left))
+    (received (start .pre) z (start .args .from .0) (at-pick .pick .ensures) (at-if2 .if2 .left) (c .before .take .ensures)) (c .answer3 .ensures)
 
 pub receive-spec : {M : Type 1} → statement M
 receive-spec =

@@ -19,7 +19,9 @@ add-leave : tie.Need-add-leave
 add-leave c = omega (arith, c .before .before .before .before .before .before .before .before .pre .1)
 
 leave-requires : tie.Need-leave-requires
-leave-requires c κs = (c .before .before .before .before .before .before .before .before .pre .0 .lines, omega (arith, c .before .before .before .before .before .before .before .before .pre .1), c .before .before .before .before .before .before .before .before .pre .2)
+leave-requires c κs =
+    let start = c .before .before .before .before .before .before .before .before in
+    (start .pre .0 .lines, omega (arith, start .pre .1), start .pre .2)
 
 stand-requires : tie.Need-stand-requires
 stand-requires c κs = search needs
@@ -29,10 +31,17 @@ tell-requires c κs = search needs
 
 returns : tie.Need-returns
 returns c =
-    let h = c .before .before .before .before .before .before .before .before .before .before .before .before .before .before .before .pre .1 in
-    let r = left (c .before .before .before .before .before .before .before .before .before .before .before .before .before .before .before .pre .0) (omega arith) (c .before .before .before .before .before .before .leave .ensures) in
-    let s = stood (r .whole) (c .before .before .before .before .before .before .before .before .before .before .before .before .before .before .before .pre .2) (c .before .before .before .stand .ensures) in
-    took (c .before .before .before .before .before .before .before .before .before .before .before .before .before .before .before .pre .0) (c .before .before .before .before .before .before .before .before .before .before .before .before .before .before .before .pre .2) (c .before .before .before .before .before .before .before .before .before .before .before .before .before .partner-of .ensures) (c .before .before .before .before .before .before .before .before .before .before .before .number-of .ensures) (c .before .before .before .before .before .before .before .before .before .word-of .ensures) r s (heard (s .whole) h (c .tell .ensures))
+    let at-stand = c .before .before .before in
+    let at-leave = at-stand .before .before .before in
+    let at-word-of = at-leave .before .before .before in
+    let at-number-of = at-word-of .before .before in
+    let at-partner-of = at-number-of .before .before in
+    let start = at-partner-of .before .before in
+    let h = start .pre .1 in
+    let r = left (start .pre .0) (omega arith) (at-leave .leave .ensures) in
+    let s = stood (r .whole) (start .pre .2) (at-stand .stand .ensures) in
+    took (start .pre .0) (start .pre .2) (at-partner-of .partner-of .ensures) (at-number-of .number-of .ensures) (at-word-of .word-of .ensures) r s
+    (heard (s .whole) h (c .tell .ensures))
 
 pub take-spec : {M : Type 1} → statement M
 take-spec =

@@ -11,7 +11,9 @@ number-of-requires : tie.Need-number-of-requires
 number-of-requires c κs = caller-place (c .before .before .pre .stands) (c .before .before .pre .busy)
 
 ready-requires : tie.Need-ready-requires
-ready-requires c κs = (c .before .before .before .before .before .before .pre .stands .whole, caller-place (c .before .before .before .before .before .before .pre .stands) (c .before .before .before .before .before .before .pre .busy), caller-loose (c .before .before .before .before .before .before .pre .stands) (c .before .before .before .before .before .before .pre .busy))
+ready-requires c κs =
+    let start = c .before .before .before .before .before .before in
+    (start .pre .stands .whole, caller-place (start .pre .stands) (start .pre .busy), caller-loose (start .pre .stands) (start .pre .busy))
 
 tell-requires : tie.Need-tell-requires
 tell-requires c κs = met-place (c .before .before .before .before .before .before .before .before .before .pre)
@@ -24,8 +26,13 @@ turn-to-requires c κs = search needs
 
 returns : tie.Need-returns
 returns c =
-    let s = heard (c .before .before .before .before .before .before .before .ready .ensures .whole) (met-place (c .before .before .before .before .before .before .before .before .before .before .before .before .before .before .pre)) (c .before .before .before .before .tell .ensures) in
-    replied (c .before .before .before .before .before .before .before .before .before .before .before .before .before .before .pre) (c .before .before .before .before .before .before .before .before .before .before .before .number-of .ensures) (c .before .before .before .before .before .before .before .ready .ensures) s (stood (s .whole) (met-place (c .before .before .before .before .before .before .before .before .before .before .before .before .before .before .pre)) (c .before .stand .ensures)) (c .turn-to .ensures)
+    let at-tell = c .before .before .before .before in
+    let at-ready = at-tell .before .before .before in
+    let at-number-of = at-ready .before .before .before .before in
+    let start = at-number-of .before .before .before in
+    let s = heard (at-ready .ready .ensures .whole) (met-place (start .pre)) (at-tell .tell .ensures) in
+    replied (start .pre) (at-number-of .number-of .ensures) (at-ready .ready .ensures) s
+    (stood (s .whole) (met-place (start .pre)) (c .before .stand .ensures)) (c .turn-to .ensures)
 
 pub hand-over-spec : {M : Type 1} → statement M
 hand-over-spec =

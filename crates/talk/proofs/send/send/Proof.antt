@@ -13,16 +13,29 @@ answer-requires : tie.Need-answer-requires
 answer-requires c κs = search needs
 
 returns : tie.Need-returns
-returns c = send-not (c .before .before .before .before .before .pre) _ (c .before .before .before .before .before .args .word) (omega (arith, c .before .before .before .before .before .fits)) (c .before .before .before .whom .ensures _ _ (c .before .before .before .before .before .pre)) (c .before .if1 .taken) (c .answer .ensures)
+returns c =
+    let at-whom = c .before .before .before in
+    let start = at-whom .before .before in
+    send-not (start .pre) _ (start .args .word) (omega (arith, start .fits)) (at-whom .whom .ensures _ _ (start .pre)) (c .before .if1 .taken)
+    (c .answer .ensures)
 
 deliver-requires : tie.Need-deliver-requires
-deliver-requires c κs = c .before .before .before .before .before .before .whom .ensures _ _ (c .before .before .before .before .before .before .before .before .pre) .meets (omega (arith, c .before .before .before .before .if1 .left))
+deliver-requires c κs =
+    let at-if1 = c .before .before .before .before in
+    let at-whom = at-if1 .before .before in
+    let start = at-whom .before .before in
+    at-whom .whom .ensures _ _ (start .pre) .meets (omega (arith, at-if1 .if1 .left))
 
 answer-requires-2 : tie.Need-answer-requires-2
 answer-requires-2 c κs = search needs
 
 returns-2 : tie.Need-returns-2
-returns-2 c = sent (c .before .before .before .before .before .before .before .before .before .before .pre) _ (c .before .before .before .before .before .before .before .before .before .before .args .word) (omega (arith, c .before .before .before .before .before .before .before .before .before .before .fits)) (c .before .before .before .before .before .before .before .before .whom .ensures _ _ (c .before .before .before .before .before .before .before .before .before .before .pre)) (omega (arith, c .before .before .before .before .before .before .if1 .left)) (c .before .deliver .ensures) (c .answer2 .ensures)
+returns-2 c =
+    let at-if1 = c .before .before .before .before .before .before in
+    let at-whom = at-if1 .before .before in
+    let start = at-whom .before .before in
+    sent (start .pre) _ (start .args .word) (omega (arith, start .fits)) (at-whom .whom .ensures _ _ (start .pre)) (omega (arith, at-if1 .if1 .left))
+    (c .before .deliver .ensures) (c .answer2 .ensures)
 
 pub send-spec : {M : Type 1} → statement M
 send-spec =

@@ -34,7 +34,11 @@ cast-t14 : tie.Need-cast-t14 Inv-loop μ-loop
 cast-t14 c = search needs
 
 returns : tie.Need-returns Inv-loop μ-loop
-returns c = sym (c .before .before .before .before .before .before .loop .inv .1 ∙ found-here _ _ _ (c .before .before .before .before .before .loop-test .taken) (c .before .before .before .if1 .taken) (c .if2 .taken))
+returns c =
+    let at-if1 = c .before .before .before in
+    let at-loop-test = at-if1 .before .before in
+    let at-loop = at-loop-test .before in
+    sym (at-loop .loop .inv .1 ∙ found-here _ _ _ (at-loop-test .loop-test .taken) (at-if1 .if1 .taken) (c .if2 .taken))
 
 add-i : tie.Need-add-i Inv-loop μ-loop
 add-i c = search needs
@@ -43,7 +47,10 @@ loop-less : tie.Need-loop-less Inv-loop μ-loop
 loop-less c = search needs
 
 loop-again : tie.Need-loop-again Inv-loop μ-loop
-loop-again c = (omega arith, c .before .before .before .loop .inv .1 ∙ ⊎-elim (λ w. found-other _ _ _ (c .before .before .loop-test .taken) (w .0 .taken) (w .3 .left)) (λ w. found-dead _ _ _ (c .before .before .loop-test .taken) (omega (arith, w .left))) (c .if1 .came))
+loop-again c =
+    let at-loop-test = c .before .before in
+    let at-loop = at-loop-test .before in
+    (omega arith, at-loop .loop .inv .1 ∙ ⊎-elim (λ w. found-other _ _ _ (at-loop-test .loop-test .taken) (w .0 .taken) (w .3 .left)) (λ w. found-dead _ _ _ (at-loop-test .loop-test .taken) (omega (arith, w .left))) (c .if1 .came))
 
 returns-2 : tie.Need-returns-2 Inv-loop μ-loop
 returns-2 c = sym (c .before .loop .inv .1 ∙ found-past _ _ _ (omega arith))

@@ -13,10 +13,20 @@ returns-2 : tie.Need-returns-2
 returns-2 c = names-2 (c .before .before .before .before .before .before .args .n .0) (c .before .before .before .if1 .left) (c .if2 .taken)
 
 returns-3 : tie.Need-returns-3
-returns-3 c = names-3 (c .before .before .before .before .before .before .before .before .before .args .n .0) (c .before .before .before .before .before .before .if1 .left) (c .before .before .before .if2 .left) (c .before .before .before .before .before .number-of .ensures) (c .if3 .taken)
+returns-3 c =
+    let at-if2 = c .before .before .before in
+    let at-number-of = at-if2 .before .before in
+    let at-if1 = at-number-of .before in
+    let start = at-if1 .before .before .before in
+    names-3 (start .args .n .0) (at-if1 .if1 .left) (at-if2 .if2 .left) (at-number-of .number-of .ensures) (c .if3 .taken)
 
 returns-4 : tie.Need-returns-4
-returns-4 c = names-0 (c .before .before .before .before .before .before .before .before .before .args .n .0) (c .before .before .before .before .before .before .if1 .left) (c .before .before .before .if2 .left) (c .before .before .before .before .before .number-of .ensures) (c .if3 .left)
+returns-4 c =
+    let at-if2 = c .before .before .before in
+    let at-number-of = at-if2 .before .before in
+    let at-if1 = at-number-of .before in
+    let start = at-if1 .before .before .before in
+    names-0 (start .args .n .0) (at-if1 .if1 .left) (at-if2 .if2 .left) (at-number-of .number-of .ensures) (c .if3 .left)
 
 pub names-spec : {M : Type 1} → statement M
 names-spec = tie.close (tie.spec returns number-of-requires returns-2 returns-3 returns-4)

@@ -15,10 +15,20 @@ find-requires : tie.Need-find-requires
 find-requires c κs = search needs
 
 returns-2 : tie.Need-returns-2
-returns-2 c = addresses-4 (c .before .before .before .before .before .args .n .0) (c .before .before .before .before .names .ensures) (omega (arith, c .before .before .before .if1 .left)) (c .before .before .find .ensures) (c .if2 .taken)
+returns-2 c =
+    let at-find = c .before .before in
+    let at-if1 = at-find .before in
+    let at-names = at-if1 .before in
+    let start = at-names .before in
+    addresses-4 (start .args .n .0) (at-names .names .ensures) (omega (arith, at-if1 .if1 .left)) (at-find .find .ensures) (c .if2 .taken)
 
 returns-3 : tie.Need-returns-3
-returns-3 c = addresses-0 (c .before .before .before .before .before .args .n .0) (c .before .before .before .before .names .ensures) (omega (arith, c .before .before .before .if1 .left)) (c .before .before .find .ensures) (c .if2 .left)
+returns-3 c =
+    let at-find = c .before .before in
+    let at-if1 = at-find .before in
+    let at-names = at-if1 .before in
+    let start = at-names .before in
+    addresses-0 (start .args .n .0) (at-names .names .ensures) (omega (arith, at-if1 .if1 .left)) (at-find .find .ensures) (c .if2 .left)
 
 pub whom-spec : {M : Type 1} → statement M
 whom-spec = tie.close (tie.spec names-requires returns find-requires returns-2 returns-3)
