@@ -1,14 +1,22 @@
 #!/usr/bin/env python3
-"""make.py KIND FILE.tsv: makes data/vectors and stdout of the program that runs the vectors of that kind (load, replay, record, reader).
+"""make.py: makes crates/vectors/data/vectors and crates/vectors/stdout of all the tables of vectors in this folder.
 
-A table has a head line, `# inputs > outputs`, and a row a vector, its columns parted by tabs. The data are the rows' inputs, field after field, each with
-its length in two bytes before it (numbers in four bytes, little-endian); the output is what the program must print, a line a row.
+A table's kind is the first word of its name, `load` of load-base-21.tsv. It has a head line, `# inputs > outputs`, and a row a vector, its columns parted by
+tabs. In the data a vector is the byte of its kind and then, with its length in two bytes before it, the row's inputs, field after field, each with its length
+in two bytes before it (numbers in four bytes, little-endian). The output is what the program must print, a line a row, with the kind's word in front.
+
+A new kind is a number in KINDS and a function here, and the same number and a module in crates/vectors/src.
 """
+import glob
 import os
 import sys
 
 HERE = os.path.dirname(os.path.abspath(__file__))
-PROGRAM = {'load': 'loads', 'replay': 'replays', 'record': 'records', 'reader': 'readings'}
+CRATE = os.path.join(HERE, '..', 'crates', 'vectors')
+# The kinds' numbers, as crates/vectors/src/main.rt has them.
+KINDS = {'load': 1, 'replay': 2, 'record': 3, 'reader': 4}
+# The tables of these kinds are run from C alone, by c/run.
+FROM_C = {'board'}
 
 
 def octets(text):
@@ -46,17 +54,26 @@ def reader(row):
     return field(octets(row[0])) + field(number(row[1])), ' '.join(row[2:5])
 
 
-def main():
-    kind, path = sys.argv[1:3]
+def made(path):
+    """The data and the output of one table."""
+    kind = os.path.basename(path).split('-')[0]
+    if kind in FROM_C:
+        return b'', ''
+    if kind not in KINDS:
+        sys.exit('make.py: %s: no kind %s; there are: %s' % (path, kind, ' '.join(sorted(KINDS))))
     with open(path) as f:
-        rows = [line.rstrip('\n').split('\t') for line in f if not line.startswith('#')]
-    made = [globals()[kind](row) for row in rows]
-    crate = os.path.join(HERE, '..', 'crates', PROGRAM[kind])
-    os.makedirs(os.path.join(crate, 'data'), exist_ok=True)
-    with open(os.path.join(crate, 'data', 'vectors'), 'wb') as f:
-        f.write(b''.join(inputs for inputs, _ in made))
-    with open(os.path.join(crate, 'stdout'), 'w') as f:
-        f.write(''.join(line + '\n' for _, line in made))
+        rows = [globals()[kind](line.rstrip('\n').split('\t')) for line in f if not line.startswith('#')]
+    data = b''.join(bytes([KINDS[kind]]) + field(inputs) for inputs, _ in rows)
+    return data, ''.join('%s %s\n' % (kind, line) for _, line in rows)
+
+
+def main():
+    tables = [made(path) for path in sorted(glob.glob(os.path.join(HERE, '*.tsv')))]
+    os.makedirs(os.path.join(CRATE, 'data'), exist_ok=True)
+    with open(os.path.join(CRATE, 'data', 'vectors'), 'wb') as f:
+        f.write(b''.join(data for data, _ in tables))
+    with open(os.path.join(CRATE, 'stdout'), 'w') as f:
+        f.write(''.join(output for _, output in tables))
 
 
 main()

@@ -1,8 +1,8 @@
 // What the programs share: reading the file or standard input, and printing what an event answers. What is printed is not proved, but compared with stored
 // output.
-ghost use Prim.Native.Nat.{_≤_, _<_};
-ghost use lib.ListN.{length};
-ghost use Rattle.console.specs.Within.{Within};
+ghost use mathlib.Core.Path.{_≡_};
+ghost use Rattle.io.specs.Counts.{Counts};
+use libc::STDERR_FILENO;
 use libc::STDIN_FILENO;
 use libc::STDOUT_FILENO;
 use nucleus::State;
@@ -11,6 +11,11 @@ use rules::Number;
 
 pub fn text(b: &[u8]) {
     io::write_all(STDOUT_FILENO, b);
+}
+
+// What is wrong, which goes to standard error.
+pub fn complain(b: &[u8]) {
+    io::write_all(STDERR_FILENO, b);
 }
 
 pub fn number(n: u64) {
@@ -69,80 +74,72 @@ pub fn answer(code: u8, c: Choice, n: Number) {
     text(b"\n");
 }
 
-// Standard input, as far as the buffer goes. How many bytes there were.
-pub fn input(buffer: &mut [u8]) -> usize
-    ensures { λ r. ⌜ r ≤ length (now (buffer .exit)) ⌝ }
-{
-    io::read_full(STDIN_FILENO, buffer)
+// What was read: so many bytes, at the start of the buffer. Where reading failed there are none, and that has been said.
+pub struct Reading {
+    pub count: usize,
+    pub failed: bool,
 }
 
-// The file that argument i names, as far as the buffer goes. How many bytes there were; none where it cannot be read, which is said.
-pub fn file(i: usize, buffer: &mut [u8]) -> usize
-    ensures { λ r. ⌜ r ≤ length (now (buffer .exit)) ⌝ }
+// Standard input, as far as the buffer goes.
+pub fn input(buffer: &mut [u8]) -> Reading
+    ensures { λ r. ⌜ Counts (r .count) (now (buffer .exit)) ⌝ }
 {
-    let mut name = [0u8; 1024];
+    read(STDIN_FILENO, b"standard input", buffer)
+}
+
+// The file that argument i names, as far as the buffer goes. A name that is too long is not cut, since what is left of it would name another file.
+pub fn file(i: usize, buffer: &mut [u8]) -> Reading
+    ensures { λ r. ⌜ Counts (r .count) (now (buffer .exit)) ⌝ }
+{
+    let mut name = io::buffer();
     let n = os::arg(i, &mut name);
-    let file = os::open_read(&name[..n]);
-    if file < 0 {
-        os::fail(&name[..n]);
-        return 0;
+    if os::errno() != 0 {
+        return failed(&name);
     }
-    let got = io::read_full(file, buffer);
+    named(&name[..n], buffer)
+}
+
+fn named(name: &[u8], buffer: &mut [u8]) -> Reading
+    ensures { λ r. ⌜ Counts (r .count) (now (buffer .exit)) ⌝ }
+{
+    let file = os::open_read(name);
+    if file < 0 {
+        return failed(name);
+    }
+    let got = read(file, name, buffer);
     libc::close(file);
     got
 }
 
-// A field of the data that a program is run on: two bytes say how long it is, and it follows. What runs past the end is cut.
-pub struct Field {
-    pub start: usize,
-    pub end: usize,
-}
-
-pub fn field_at(bytes: &[u8], at: usize) -> Field
-    ensures { λ r. ⌜ Within (now (bytes .entry)) at r ⌝ }
+// All that an open file has, as far as the buffer goes. `io::read_full` would take a read that fails, as that of a folder does, for the end.
+fn read(file: i32, name: &[u8], buffer: &mut [u8]) -> Reading
+    ensures { λ r. ⌜ Counts (r .count) (now (buffer .exit)) ⌝ }
 {
-    let all = bytes.len();
-    if all < 2 {
-        return Field {
-            start: all,
-            end: all,
-        };
+    let mut done = 0;
+    while done < buffer.len() {
+        let got = libc::read(file, &mut buffer[done..]);
+        if got < 0 {
+            return failed(name);
+        }
+        let n = io::count(got, &buffer[done..]);
+        if n == 0 {
+            break;
+        }
+        done += n;
     }
-    if at > all - 2 {
-        return Field {
-            start: all,
-            end: all,
-        };
-    }
-    let start = at + 2;
-    let n = wide(bytes[at]) + 256 * wide(bytes[at + 1]);
-    if n > all - start {
-        return Field {
-            start: start,
-            end: all,
-        };
-    }
-    Field {
-        start: start,
-        end: start + n,
+    Reading {
+        count: done,
+        failed: false,
     }
 }
 
-fn wide(x: u8) -> usize
-    ensures { λ r. ⌜ r < 256 ⌝ }
+// What could not be read is said, with the reason, before another call can change that.
+fn failed(name: &[u8]) -> Reading
+    ensures { λ r. ⌜ r .count ≡ 0 ⌝ }
 {
-    x as usize
-}
-
-// A number of four bytes, little-endian; 0 where they are not all there.
-pub fn number_at(bytes: &[u8], at: usize) -> usize {
-    let all = bytes.len();
-    if all < 4 {
-        return 0;
+    os::fail(name);
+    Reading {
+        count: 0,
+        failed: true,
     }
-    if at > all - 4 {
-        return 0;
-    }
-    wide(bytes[at])
-        + 256 * (wide(bytes[at + 1]) + 256 * (wide(bytes[at + 2]) + 256 * wide(bytes[at + 3])))
 }

@@ -1,0 +1,45 @@
+// Vectors of load, and of looking up: an image, and numbers. The line says load's code, the image saved again, the choice, and the part of each number.
+use crate::fields;
+use rules::Number;
+
+pub fn run(vector: &[u8]) {
+    let image = fields::first(vector);
+    console::text(b"load ");
+    loaded(image);
+    looked(image, fields::second(vector));
+}
+
+fn loaded(bytes: &[u8]) {
+    let r = image::load(bytes);
+    let s = r.state;
+    console::number(r.code as u64);
+    console::text(b" ");
+    console::image_of(s);
+    console::text(b" ");
+    console::choice(s.choice());
+    console::text(b" ");
+}
+
+// Each number, and the part that it has.
+fn looked(bytes: &[u8], numbers: &[u8]) {
+    let mut i = 0;
+    while i < numbers.len() {
+        comma(i);
+        let n = numbers[i];
+        part(bytes, Number(n));
+        i += 1;
+    }
+}
+
+// Between one and the next.
+fn comma(i: usize) {
+    if i > 0 {
+        console::text(b",");
+    }
+}
+
+fn part(bytes: &[u8], n: Number) {
+    console::number(n.0 as u64);
+    console::text(b":");
+    console::hex(image::look_up(bytes, n));
+}
