@@ -216,11 +216,3 @@ pub fn survey(l: &Links) -> Seats
         at: at,
     }
 }
-
-// Is the array tidy? Any bytes may come.
-pub fn tidy(l: &Links) -> bool
-    ensures { λ r. ⌜ Tells r (Tidy places lineCount (now (l .entry))) (Tidy places lineCount (now (l .entry)) → ⊥) ⌝ }
-{
-    let s = survey(l);
-    s.tidy
-}
