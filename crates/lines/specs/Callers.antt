@@ -1,13 +1,12 @@
 -- What a caller goes on with after join, pop and leave. Assumes nothing.
 use mathlib.Core.Path.{_≡_, refl, sym, ap, _∙_}
 use mathlib.Core.List.{List, [], _∷_}
-use mathlib.Core.Bool.{true, false}
+use mathlib.Core.Bool.{false}
 use Prim.Native.Nat.{ℕ, _+_, _≤_, _<_}
 use borrow.Author.Tests.{eqb-true, eqb-false}
 use lib.Dec.{eqb}
-use Rattle.lists.specs.Lists.{none, among, without, front, rest}
+use Rattle.lists.specs.Lists.{none, among, front, rest}
 use Rattle.lists.specs.Laws.{by-test, front-some, front-among, front-none, front-once}
-use Rattle.lists.specs.Without.{without-gone}
 use Rattle.lines.specs.Lines.{lineOf, Loose, Path, Tidy, Turned, Popped}
 use Rattle.lines.specs.Arrays.{once, unique}
 use Rattle.lines.specs.Along.{no-place}
@@ -30,12 +29,7 @@ loose-kept {q = q} t p h f r b =
     (λ e. let z : r ≡ q = eqb-true r q e in rw (z, t .here) h)
     (λ e. let z = eqb-false r q e in rw (t .others r b z) (f r b z))
 
--- who is taken out of the line in which it stands stands in none
-pub loose-gone : {P N : ℕ} {l m : List ℕ} {q : ℕ} (p : ℕ) → Tidy P N l → Turned P N l m q (without p (lineOf P l q)) → q < N → P ≤ none → among p (lineOf P l q) ≡ true → Loose N (lineOf P m) p
-loose-gone {P} {N} {l} {q = q} p k t b small h =
-    loose-kept t p (without-gone p (lineOf P l q) (once P N small l k q b)) (λ r g n. k .apart q r p b g (λ e. n (sym e)) h)
-
--- and so does the first, when it has left
+-- the first, when it has left, stands in no line
 pub loose-front : {P N : ℕ} {l m : List ℕ} {q : ℕ} → Tidy P N l → Turned P N l m q (rest (lineOf P l q)) → q < N → P ≤ none → (front (lineOf P l q) ≡ none → ⊥) → Loose N (lineOf P m) (front (lineOf P l q))
 loose-front {P} {N} {l} {q = q} k t b small n =
     let xs = lineOf P l q in

@@ -6,7 +6,7 @@ pub mod Join
 pub mod Cut
 pub mod Seek
 pub mod Test
-pub mod Layout
+pub mod Blank
 pub mod Along
 pub mod Passes
 pub mod Callers

@@ -1,12 +1,12 @@
 -- Lines of places in one array of bytes: what the contracts of join, pop and leave speak of. With P places and N lines, cell p < P holds the place
 -- after p in its line, cell P + q the first place of line q, cell P + N + q the last. So a line starts at its own cell, P + q, as if that were the place before the first.
 use mathlib.Core.Path.{_≡_}
-use mathlib.Core.List.{List, [], _∷_, _++_}
+use mathlib.Core.List.{List, [], _∷_}
 use mathlib.Core.Bool.{true, false, cond}
-use Prim.Native.Nat.{ℕ, zero, suc, _+_, _≤_, _<_}
+use Prim.Native.Nat.{ℕ, zero, suc, _+_, _<_}
 use lib.Dec.{eqb}
 use lib.ListN.{length, getD}
-use Rattle.lists.specs.Lists.{none, among, Distinct, front, rest, tab}
+use Rattle.lists.specs.Lists.{none, among, front, rest}
 
 -- ---- the lines of an array
 -- the places after the cell c, at most n of them. (No abbrev: at a numeral n it would unfold n deep wherever it stands.)
@@ -46,7 +46,7 @@ abbrev pub Tidy : ℕ → ℕ → List ℕ → Type 0
 Tidy P N l = Is P N l (lineOf P l)
 
 -- ---- what an operation does
--- m is l with line q made xs, and nothing else changed. (It determines m: Callers, `turned-one`; as one equation: Layout, `turned-layout`.)
+-- m is l with line q made xs, and nothing else changed. (It determines m: Callers, `turned-one`.)
 pub record Turned (P N : ℕ) (l m : List ℕ) (q : ℕ) (xs : List ℕ) : Type 0 where
   pub tidy : Tidy P N m
   pub here : lineOf P m q ≡ xs
@@ -77,26 +77,6 @@ nextIn p (x ∷ xs) = cond (eqb x p) (front xs) (nextIn p xs)
 abbrev pub Next : ℕ → ℕ → List ℕ → ℕ → ℕ → Type 0
 Next P N l p r = (q : ℕ) → q < N → among p (lineOf P l q) ≡ true → r ≡ nextIn p (lineOf P l q)
 
--- ---- the array of given lines
 -- the lines with line q made xs
 abbrev pub upd : (ℕ → List ℕ) → ℕ → List ℕ → ℕ → List ℕ
 upd ls q xs r = cond (eqb r q) xs (ls r)
-
--- lines that an array can hold: of places, none twice
-pub record Fit (P N : ℕ) (ls : ℕ → List ℕ) : Type 0 where
-  pub low : (q x : ℕ) → q < N → P ≤ x → among x (ls q) ≡ false
-  pub once : (q : ℕ) → q < N → Distinct (ls q)
-  pub apart : (q r x : ℕ) → q < N → r < N → (q ≡ r → ⊥) → among x (ls q) ≡ true → among x (ls r) ≡ false
-
--- who stands behind p in one of the first n lines. (No abbrev, as `walk`.)
-unfoldable pub nextOf : ℕ → (ℕ → List ℕ) → ℕ → ℕ
-nextOf zero ls p = none
-nextOf (suc n) ls p = cond (among p (ls n)) (nextIn p (ls n)) (nextOf n ls p)
-
--- their array
-abbrev pub layout : ℕ → ℕ → (ℕ → List ℕ) → List ℕ
-layout P N ls = tab P (nextOf N ls) ++ (tab N (λ q. front (ls q)) ++ tab N (λ q. lastCell none (ls q)))
-
--- all lines of an array, as one list
-abbrev pub view : ℕ → ℕ → List ℕ → List (List ℕ)
-view P N l = tab N (lineOf P l)

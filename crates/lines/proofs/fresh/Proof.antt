@@ -1,6 +1,6 @@
 -- `fresh` meets its contract. The blank array is that of empty lines. Assumes nothing.
 use native.Mathlib.Omega.{arith}
-use Rattle.lines.specs.Layout.{blank-clear}
+use Rattle.lines.specs.Blank.{blank-clear}
 use Rattle.lists.specs.Sizes.{places, lineCount}
 use Rattle.lines.proofs.fresh.Statement.{statement}
 use Rattle.lines.proofs.fresh.Tie as tie
