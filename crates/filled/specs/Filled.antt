@@ -1,7 +1,7 @@
 -- The set of filled places in one word: place p is filled where digit p of the word is 1. A set is a test on places, and a word stands for its first k answers.
 -- How to use it: keep `x ≡ wordOf width f`, with f the test whether a place is filled. Each function's contract, given f and that equation, says what the answer is in terms of f.
 use mathlib.Core.Bool.{Bool, true, false, cond, _&&_}
-use Prim.Native.Nat.{ℕ, zero, suc, _+_, _*_, _/_, _%_}
+use Prim.Native.Nat.{ℕ, zero, suc, _+_, _*_}
 use lib.Dec.{eqb, ltb}
 use Rattle.lists.specs.Lists.{bit}
 
@@ -30,8 +30,3 @@ upto n f i = ltb i n && f i
 unfoldable pub lowestOut : ℕ → (ℕ → Bool) → ℕ
 lowestOut zero f = 0
 lowestOut (suc k) f = cond (f zero) (suc (lowestOut k (λ i. f (suc i)))) 0
-
--- is digit p of x a 1? So every word is that of a set: Words, `word-of`
-unfoldable pub inWord : ℕ → ℕ → Bool
-inWord x zero = eqb (x % 2) 1
-inWord x (suc p) = inWord (x / 2) p

@@ -1,11 +1,9 @@
 -- The lowest place that is not in a set: what it is, how the word tells it, and that it is who is found first. Assumes nothing.
-use mathlib.Core.Path.{_≡_, refl, sym, ap, _∙_}
+use mathlib.Core.Path.{_≡_, refl, ap}
 use mathlib.Core.Bool.{Bool, true, false, not}
 use Prim.Native.Nat.{ℕ, zero, suc, _-_, _/_, _%_, _^_, _≤_, _<_}
 use native.Mathlib.Nat.{pow-suc}
 use native.Mathlib.Omega.{arith}
-use borrow.Author.Tests.{ltb-true, ltb-false}
-use lib.Dec.{ltb}
 use lib.Count.{trailingZeros}
 use Rattle.lists.specs.Lists.{none, bit, firstOf, upFrom}
 use Rattle.lists.specs.Laws.{by-test}
@@ -37,11 +35,6 @@ word-lowest (suc k) f =
     rw (m, e))
 
 -- ---- what it is
-pub lowest-low : (k : ℕ) (f : ℕ → Bool) → lowestOut k f ≤ k
-unfolding lowestOut
-lowest-low zero f = omega arith
-lowest-low (suc k) f = let i = lowest-low k (λ i. f (suc i)) in by-test (f zero) (λ e. rw e (omega arith)) (λ e. rw e (omega arith))
-
 pub lowest-out : (k : ℕ) (f : ℕ → Bool) → lowestOut k f < k → f (lowestOut k f) ≡ false
 unfolding lowestOut
 lowest-out zero f h = absurd (omega arith)
@@ -68,11 +61,3 @@ module _ (k : ℕ) (f : ℕ → Bool) where
 
   pub lowest-none : k ≤ lowestOut k f → firstOf (λ p. not (f p)) (upFrom 0 k) ≡ none
   lowest-none h = found-no (λ p. not (f p)) k 0 (λ r a b. rw (lowest-in k f r (omega arith)))
-
-  -- and the other way round, where none is no place
-  pub none-lowest : k ≤ none → firstOf (λ p. not (f p)) (upFrom 0 k) ≡ none → lowestOut k f ≡ k
-  none-lowest small e =
-      let l = lowest-low k f in
-      by-test (ltb (lowestOut k f) k)
-      (λ t. let h = ltb-true (lowestOut k f) k t in let z = sym (lowest-first h) ∙ e in absurd (omega arith))
-      (λ t. let h = ltb-false (lowestOut k f) k t in omega arith)

@@ -1,16 +1,13 @@
--- Words and the sets that they stand for: each set has a word, each word a set, and one only. Assumes nothing.
+-- The word of a set: its digits, its size, and that sets with the same answers have the same word. Assumes nothing.
 use mathlib.Core.Path.{_≡_, refl, ap, _∙_}
 use mathlib.Core.Bool.{Bool, false}
 use Prim.Native.Nat.{ℕ, zero, suc, _+_, _/_, _%_, _^_, _<_}
 use native.Mathlib.Nat.{pow-suc}
 use native.Mathlib.Omega.{arith}
-use borrow.Author.Tests.{eqb-true, eqb-false}
-use lib.Dec.{eqb}
 use lib.Count.{ones, ones-step, ones-le}
 use Rattle.lists.specs.Lists.{bit, tally}
-use Rattle.lists.specs.Laws.{by-test}
-use Rattle.lists.specs.Tables.{bit-low, bit-same}
-use Rattle.filled.specs.Filled.{wordOf, inWord}
+use Rattle.lists.specs.Tables.{bit-low}
+use Rattle.filled.specs.Filled.{wordOf}
 
 pub word-below : (k : ℕ) (f : ℕ → Bool) → wordOf k f < 2 ^ k
 unfolding wordOf
@@ -31,15 +28,6 @@ word-ext (suc k) f g e =
     let i = word-ext k (λ i. f (suc i)) (λ i. g (suc i)) (λ p h. e (suc p) (omega arith)) in
     omega arith
 
-pub word-same : (k : ℕ) (f g : ℕ → Bool) → wordOf k f ≡ wordOf k g → (p : ℕ) → p < k → f p ≡ g p
-unfolding wordOf
-word-same zero f g e p h = absurd (omega arith)
-word-same (suc k) f g e zero h = let a = bit-low (f zero) in let b = bit-low (g zero) in bit-same (f zero) (g zero) (omega arith)
-word-same (suc k) f g e (suc p) h =
-    let a = bit-low (f zero) in
-    let b = bit-low (g zero) in
-    word-same k (λ i. f (suc i)) (λ i. g (suc i)) (omega arith) p (omega arith)
-
 -- nobody
 pub word-none : (k : ℕ) (f : ℕ → Bool) → ((p : ℕ) → p < k → f p ≡ false) → wordOf k f ≡ 0
 unfolding wordOf
@@ -51,14 +39,3 @@ pub word-ones : (k : ℕ) (f : ℕ → Bool) → ones (wordOf k f) ≡ tally k f
 unfolding tally
 word-ones zero f = let h = word-below 0 f in let l = ones-le 0 (wordOf 0 f) h in omega arith
 word-ones (suc k) f = ones-step (wordOf (suc k) f) ∙ rw (word-digit k f .0, word-digit k f .1) (ap (λ (n : ℕ). bit (f zero) + n) (word-ones k (λ i. f (suc i))))
-
--- ---- the set of a word
-pub word-of : (k x : ℕ) → x < 2 ^ k → wordOf k (inWord x) ≡ x
-unfolding wordOf inWord
-word-of zero x h = omega arith
-word-of (suc k) x h =
-    let p = pow-suc 2 k in
-    let ih : wordOf k (inWord (x / 2)) ≡ x / 2 = word-of k (x / 2) (omega arith) in
-    by-test (eqb (x % 2) 1)
-    (λ e. let z = eqb-true (x % 2) 1 e in rw e (omega arith))
-    (λ e. let z = eqb-false (x % 2) 1 e in rw e (omega arith))

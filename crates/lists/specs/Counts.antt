@@ -1,5 +1,5 @@
 -- How often a place stands in a list, and what that says of whether it stands there. Assumes nothing.
-use mathlib.Core.Path.{_≡_, refl, sym, ap, _∙_}
+use mathlib.Core.Path.{_≡_, refl, sym, ap}
 use mathlib.Core.List.{List, [], _∷_, _++_}
 use mathlib.Core.Bool.{true, false}
 use Prim.Native.Nat.{ℕ, suc, _+_, _≤_}
@@ -73,9 +73,6 @@ distinct-count p (x ∷ xs) d =
     by-test (eqb x p)
     (λ e. let z : x ≡ p = eqb-true x p e in let g = among-none x xs (d .0) in let i : count p xs ≡ 0 = rw z at g in rw e (omega arith))
     (λ e. rw e (omega arith))
-
-pub distinct-one : (p : ℕ) (xs : List ℕ) → Distinct xs → among p xs ≡ true → count p xs ≡ 1
-distinct-one p xs d h = distinct-count p xs d ∙ ap bit h
 
 -- and who stands there at most once, each of them, stand there distinct
 pub count-distinct : (xs : List ℕ) → ((p : ℕ) → count p xs ≤ 1) → Distinct xs

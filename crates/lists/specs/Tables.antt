@@ -77,45 +77,8 @@ unfolding tally
 tally-ext zero f g e = refl
 tally-ext (suc n) f g e = ap₂ (λ (a b : ℕ). a + b) (ap bit (e 0 (omega arith))) (tally-ext n (λ k. f (suc k)) (λ k. g (suc k)) (λ i h. e (suc i) (omega arith)))
 
-pub tally-low : (n : ℕ) (f : ℕ → Bool) → tally n f ≤ n
-unfolding tally
-tally-low zero f = omega arith
-tally-low (suc n) f = let i = tally-low n (λ k. f (suc k)) in let b = bit-low (f zero) in omega arith
-
--- one more, for a loop that goes up
-pub tally-last : (n : ℕ) (f : ℕ → Bool) → tally (suc n) f ≡ tally n f + bit (f n)
-unfolding tally
-tally-last zero f = omega arith
-tally-last (suc n) f = let i = tally-last n (λ k. f (suc k)) in omega arith
-
--- one of them changes its answer
-pub tally-set : (n : ℕ) (f g : ℕ → Bool) (p : ℕ) → p < n → ((r : ℕ) → r < n → (r ≡ p → ⊥) → g r ≡ f r) → tally n g + bit (f p) ≡ tally n f + bit (g p)
-unfolding tally
-tally-set zero f g p h o = absurd (omega arith)
-tally-set (suc n) f g zero h o =
-    let e : tally n (λ k. g (suc k)) ≡ tally n (λ k. f (suc k)) = tally-ext n (λ k. g (suc k)) (λ k. f (suc k)) (λ i b. o (suc i) (omega arith) (omega arith)) in
-    omega arith
-tally-set (suc n) f g (suc p) h o =
-    let i = tally-set n (λ k. f (suc k)) (λ k. g (suc k)) p (omega arith) (λ r b m. o (suc r) (omega arith) (omega arith)) in
-    let e : bit (g zero) ≡ bit (f zero) = ap bit (o zero (omega arith) (omega arith)) in
-    omega arith
-
--- all of them, or none
-pub tally-all : (n : ℕ) (f : ℕ → Bool) → tally n f ≡ n → (p : ℕ) → p < n → f p ≡ true
-unfolding tally
-tally-all zero f e p h = absurd (omega arith)
-tally-all (suc n) f e zero h =
-    let i = tally-low n (λ k. f (suc k)) in
-    by-test (f zero) (λ t. t) (λ t. let b = ap bit t in absurd (omega arith))
-tally-all (suc n) f e (suc p) h = let b = bit-low (f zero) in let i = tally-low n (λ k. f (suc k)) in tally-all n (λ k. f (suc k)) (omega arith) p (omega arith)
-
+-- all of them
 pub tally-full : (n : ℕ) (f : ℕ → Bool) → ((p : ℕ) → p < n → f p ≡ true) → tally n f ≡ n
 unfolding tally
 tally-full zero f h = refl
 tally-full (suc n) f h = rw (h 0 (omega arith), tally-full n (λ k. f (suc k)) (λ p i. h _ (omega arith))) (omega arith)
-
-pub tally-none : (n : ℕ) (f : ℕ → Bool) → tally n f ≡ 0 → (p : ℕ) → p < n → f p ≡ false
-unfolding tally
-tally-none zero f e p h = absurd (omega arith)
-tally-none (suc n) f e zero h = by-test (f zero) (λ t. let b = ap bit t in absurd (omega arith)) (λ t. t)
-tally-none (suc n) f e (suc p) h = tally-none n (λ k. f (suc k)) (omega arith) p (omega arith)

@@ -43,15 +43,6 @@ without-other p i (x ∷ xs) h =
     (λ e. rw e (not-tail i x xs h))
     (λ e. rw e (not-cons i x (without p xs) (not-head i x xs h) (without-other p i xs (not-tail i x xs h))))
 
--- everybody but p
-pub without-kept : (p i : ℕ) (xs : List ℕ) → (i ≡ p → ⊥) → among i (without p xs) ≡ among i xs
-without-kept p i [] n = refl
-without-kept p i (x ∷ xs) n =
-    let ih = without-kept p i xs n in
-    by-test (eqb x p)
-    (λ e. let z : x ≡ i → ⊥ = λ y. n (sym y ∙ eqb-true x p e) in rw (e, ne-eqb x i z))
-    (λ e. rw e (rw ih))
-
 -- p, where nobody stood twice
 pub without-gone : (p : ℕ) (xs : List ℕ) → Distinct xs → among p (without p xs) ≡ false
 without-gone p [] d = refl

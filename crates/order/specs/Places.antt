@@ -1,6 +1,6 @@
 -- Looking places up: the place of a live number, and the lowest empty one.
 use Prim.Native.Nat.{ℕ, _≤_, _<_}
-use mathlib.Core.Path.{_≡_, refl, _∙_}
+use mathlib.Core.Path.{_≡_, _∙_}
 use mathlib.Core.Logic.{_≢_}
 use mathlib.Core.Bool.{true, false, _&&_, not}
 use native.Mathlib.Decide.{ℕ-discrete, decLt}
@@ -68,10 +68,6 @@ live-placed m S n l =
     let h : l .0 < places = small m S (l .0) (l .1) in
     at-place m n (placeOf m n) (found-from (λ p. livesAt m p && eqb (thread m p .number) n) places 0 (l .0) (omega arith) (omega arith)
     (rw (ne-eqb (thread m (l .0) .standing) Empty (l .1)) (eq-eqb (thread m (l .0) .number) n (l .2))))
-
--- the only one
-pub place-only : (m : Model) → Sound m → (p : ℕ) → thread m p .standing ≢ Empty → placeOf m (thread m p .number) ≡ p
-place-only m S p h = let v = live-placed m S (thread m p .number) (p, h, refl) in S .differ _ p (v .0) (v .1)
 
 -- a number that is not in use is nobody's
 pub unused : (m : Model) → Sound m → (n : ℕ) → placeOf m n ≡ none → (s : ℕ) → thread m s .standing ≢ Empty → thread m s .number ≢ n

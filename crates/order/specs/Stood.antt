@@ -1,16 +1,13 @@
--- Who stands in a line, in the words that the lines have for it: a place stands in one line at most, once, and leaves room for one that does not.
+-- Who stands in a line, in the words that the lines have for it: a place stands in one line at most, and once.
 use Prim.Native.Nat.{ℕ, zero, suc, _≤_, _<_}
 use mathlib.Core.Path.{_≡_, sym, ap, _∙_}
 use mathlib.Core.Logic.{_≢_}
-use mathlib.Core.List.{_∷_}
 use mathlib.Core.Bool.{true, false}
 use native.Mathlib.Omega.{arith}
-use lib.ListN.{length}
 use borrow.Author.Tests.{eqb-true}
 use Rattle.lists.specs.Lists.{bit, count, among, Distinct}
-use Rattle.lists.specs.Laws.{by-test, never, not-cons}
-use Rattle.lists.specs.Counts.{none-among, some-among, among-some, count-distinct}
-use Rattle.lists.specs.Without.{pigeon}
+use Rattle.lists.specs.Laws.{by-test, never}
+use Rattle.lists.specs.Counts.{none-among, among-some, count-distinct}
 use Rattle.lists.specs.Tables.{bit-low}
 use Rattle.rules.specs.Model.{places, Empty, Model, thread, line}
 use Rattle.rules.specs.Consistent.{belongs}
@@ -18,10 +15,7 @@ use Rattle.order.specs.Sound.{Sound, small, member, sending, sent}
 use Rattle.order.specs.Belongs.{in-none, in-ready, in-clock, in-inbox}
 
 module _ (m : Model) (S : Sound m) where
-  -- it stands there if it belongs there, and only then
-  pub stands-in : (p q : ℕ) → belongs m (thread m p) q ≡ true → among p (line m q) ≡ true
-  stands-in p q e = some-among p (line m q) (let c = S .stood p q ∙ ap bit e in omega arith)
-
+  -- who does not belong in a line does not stand in it
   pub stands-out : (p q : ℕ) → belongs m (thread m p) q ≡ false → among p (line m q) ≡ false
   stands-out p q e = none-among p (line m q) (S .stood p q ∙ ap bit e)
 
@@ -56,10 +50,3 @@ module _ (m : Model) (S : Sound m) where
   -- no line holds who is no place
   pub no-place : (q i : ℕ) → places ≤ i → among i (line m q) ≡ false
   no-place q i h = by-test (among i (line m q)) (λ e. let s = stands-at i q e in absurd (omega arith)) (λ e. e)
-
-  -- no line overflows
-  pub fits-in : (q : ℕ) → length (line m q) ≤ places
-  fits-in q = pigeon places (line m q) (no-place q) (line-distinct q)
-
-  pub room : (p q : ℕ) → p < places → belongs m (thread m p) q ≡ false → length (line m q) < places
-  room p q h e = pigeon places (p ∷ line m q) (λ i g. not-cons i p (line m q) (λ z. omega arith) (no-place q i g)) (stands-out p q e, line-distinct q)

@@ -195,13 +195,6 @@ module _ (e : Event) (m : Model) (C : Consistent m) (f : Fits e) (p n k : ℕ) (
       go true z = acted (eqb-true _ _ z)
       go false z = let c = refused (eqb-false _ _ z) in later k (omega arith) Q
 
--- while a thread is ready somebody runs: every slice end that comes meanwhile acts
-pub occupied : (m : Model) → Consistent m → (p n k : ℕ) → Queued m p n k → m .running ≢ none
-occupied m C p n k Q e =
-    let c : count p (line m ready) ≡ 1 = C .stood p ready ∙ rw (Q .standing) in
-    let z : _≡_ {A = ℕ} 0 1 = rw (C .settled e) at c in
-    omega arith
-
 -- ---- the theorem
 
 pub turn-comes : (es : List Event) (m : Model) → Consistent m → AllFit es → (p n k : ℕ) → Queued m p n k → k < slices es m → Comes n k es m
