@@ -7,20 +7,19 @@ use mathlib.Core.Bool.{Bool, true, false, _&&_}
 use native.Mathlib.Numerals.{add-one}
 use native.Mathlib.Decide.{ℕ-discrete}
 use native.Mathlib.Omega.{arith}
-use lib.ListN.{length, getD, set, replicate, length-set, length-replicate, getD-replicate, List·getD-eq-default}
+use lib.ListN.{length, getD, set, replicate, length-set, length-replicate, getD-replicate}
 use lib.Seq.{getD-set-same, getD-set-other}
 use lib.Dec.{eqb}
 use borrow.Author.Tests.{eq-eqb, ne-eqb, eqb-false, not-true, le-leb, lt-leb}
-use Rattle.lists.specs.Lists.{none, front, tab}
+use Rattle.lists.specs.Lists.{none, front}
 use Rattle.lists.specs.Laws.{never}
-use Rattle.lists.specs.Tables.{length-tab}
 use Rattle.lists.specs.Tells.{Tells}
 use Rattle.lines.specs.Lines.{lineOf, Tidy}
 use Rattle.lines.specs.Along.{no-place}
-use Rattle.rules.specs.Model.{places, lineCount, lastNumber, Empty, Running, Thread, vacant, Model, thread}
+use Rattle.rules.specs.Model.{places, lineCount, lastNumber, Empty, Running, Thread, Model, thread}
 use Rattle.rules.specs.Consistent.{Consistent}
-use Rattle.table.specs.Cells.{cell, threadOf, modelOf, standsAt}
-use Rattle.table.specs.Rows.{thread-at, line-at}
+use Rattle.table.specs.Cells.{cell, modelOf, standsAt}
+use Rattle.table.specs.Rows.{thread-at, thread-past, line-at}
 use Rattle.table.specs.Choose.{nil-front}
 use Rattle.audit.specs.Tests.{fits, home, runsAlone, unheard, seatTest, placeTest, deskTest, Index}
 
@@ -131,7 +130,7 @@ module _ (y x : ℕ) (b w l : List ℕ) where
 
     module _ (busy : x ≢ none) where
       pub desk-high : places ≤ x → false ≡ deskTest (modelOf y x b w l)
-      desk-high h = let v = length-tab places (threadOf b w) in rw (le-leb y lastNumber low, ne-eqb x none busy, List·getD-eq-default (tab places (threadOf b w)) vacant {n = x} (omega arith))
+      desk-high h = rw (le-leb y lastNumber low, ne-eqb x none busy, thread-past y x b w l x h)
 
       pub desk-busy : x < places → eqb (getD b (cell 1 x) 0) Running ≡ deskTest (modelOf y x b w l)
       desk-busy h = rw (le-leb y lastNumber low, ne-eqb x none busy, thread-at y x b w l x h)

@@ -6,7 +6,7 @@ use Prim.Native.Nat.{ℕ, zero, suc, _+_, _≤_, _<_}
 use native.Mathlib.Omega.{arith}
 use borrow.Author.Tests.{eqb-true, eqb-false}
 use lib.Dec.{eqb}
-use lib.ListN.{length, getD, set, replicate, length-set}
+use lib.ListN.{length, getD, set, replicate, length-set, List·getD-eq-default}
 use lib.Seq.{getD-set-same, getD-set-other, ext-getD}
 use Rattle.lists.specs.Lists.{bit, tab, tally}
 use Rattle.lists.specs.Laws.{by-test}
@@ -22,6 +22,10 @@ unfolding tab
 getD-tab zero f i d h = absurd (omega arith)
 getD-tab (suc n) f zero d h = refl
 getD-tab (suc n) f (suc i) d h = getD-tab n (λ k. f (suc k)) i d (omega arith)
+
+-- past its end there is nothing
+pub tab-past {ℓ} : {A : Type ℓ} (n : ℕ) (f : ℕ → A) (i : ℕ) (d : A) → n ≤ i → getD (tab n f) i d ≡ d
+tab-past n f i d h = let v = length-tab n f in List·getD-eq-default (tab n f) d {n = i} (omega arith)
 
 -- a table is what it holds
 pub tab-ext : {A : Type 0} (n : ℕ) (f g : ℕ → A) → ((i : ℕ) → i < n → f i ≡ g i) → tab n f ≡ tab n g

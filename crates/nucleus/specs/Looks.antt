@@ -3,16 +3,13 @@ use mathlib.Core.Path.{_≡_, sym, _∙_}
 use mathlib.Core.List.{List}
 use mathlib.Core.Bool.{not}
 use Prim.Native.Nat.{ℕ, _≤_, _<_}
-use native.Mathlib.Omega.{arith}
-use lib.ListN.{List·getD-eq-default}
-use Rattle.lists.specs.Lists.{none, upFrom, firstOf, tab}
+use Rattle.lists.specs.Lists.{none, upFrom, firstOf}
 use Rattle.lists.specs.Search.{first-ext}
-use Rattle.lists.specs.Tables.{length-tab}
 use Rattle.filled.specs.Filled.{lowestOut}
 use Rattle.filled.specs.Lowest.{lowest-first, lowest-none}
-use Rattle.rules.specs.Model.{places, vacant, livesAt, allPlaces, thread}
+use Rattle.rules.specs.Model.{places, livesAt, allPlaces}
 use Rattle.rules.specs.Rules.{emptyPlace}
-use Rattle.table.specs.Cells.{threadOf, shown, standsAt}
+use Rattle.table.specs.Cells.{shown, standsAt}
 use Rattle.table.specs.Rows.{thread-at}
 use Rattle.table.specs.declared.Desk.{Desk}
 
@@ -28,7 +25,3 @@ module _ (d : Desk) (b w l : List ℕ) where
 
     pub lowest-full : places ≤ r → none ≡ emptyPlace (shown d b w l)
     lowest-full h = sym (empty-is ∙ lowest-none places (standsAt b) (rw (← e) h))
-
-  -- past the places there is nobody
-  pub thread-past : (p : ℕ) → places ≤ p → thread (shown d b w l) p ≡ vacant
-  thread-past p h = let v = length-tab places (threadOf b w) in List·getD-eq-default (tab places (threadOf b w)) vacant {n = p} (omega arith)

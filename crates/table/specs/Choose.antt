@@ -6,18 +6,18 @@ use Prim.Native.Nat.{ℕ, _<_}
 use native.Mathlib.Decide.{decLt}
 use native.Mathlib.Omega.{arith}
 use lib.Dec.{eqb}
-use lib.ListN.{getD, List·getD-eq-default}
+use lib.ListN.{getD}
 use borrow.Author.Tests.{eq-eqb, ne-eqb}
-use Rattle.lists.specs.Lists.{none, among, front, tab, tally}
+use Rattle.lists.specs.Lists.{none, among, front, tally}
 use Rattle.lists.specs.Laws.{not-head}
-use Rattle.lists.specs.Tables.{tally-ext, length-tab}
+use Rattle.lists.specs.Tables.{tally-ext}
 use Rattle.lines.specs.Lines.{lineOf, Tidy}
 use Rattle.lines.specs.Along.{no-place}
-use Rattle.rules.specs.Model.{places, lineCount, vacant, Thread, livesAt, live, clock}
+use Rattle.rules.specs.Model.{places, lineCount, Thread, livesAt, live, clock}
 use Rattle.rules.specs.Rules.{isNil, mine, choice}
 use Rattle.rules.specs.declared.Choice.the-variants.{Run, Halt, Wait, Stuck}
-use Rattle.table.specs.Cells.{cell, threadOf, shown, standsAt, Filled, Stands}
-use Rattle.table.specs.Rows.{thread-at, line-at}
+use Rattle.table.specs.Cells.{cell, shown, standsAt, Filled, Stands}
+use Rattle.table.specs.Rows.{thread-at, thread-past, line-at}
 use Rattle.table.specs.declared.Desk.{Desk}
 
 -- a line is empty exactly if nobody is in front
@@ -38,8 +38,7 @@ legible {d} {b} {w} {l} s = record {
   seat = λ k. elim (decLt (d .running .0) places) [
     | yes h ↦ h
     | no h ↦
-        let v = length-tab places (threadOf b w) in
-        let e : _≡_ {A = ℕ} 0 1 = sym (ap (λ (t : Thread). t .standing) (List·getD-eq-default (tab places (threadOf b w)) vacant {n = d .running .0} (omega arith))) ∙ s .consistent .busy k in
+        let e : _≡_ {A = ℕ} 0 1 = sym (ap (λ (t : Thread). t .standing) (thread-past (d .last .0) (d .running .0) b w l (d .running .0) (omega arith))) ∙ s .consistent .busy k in
         absurd (omega arith)
   ];
 }

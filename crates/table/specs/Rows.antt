@@ -2,14 +2,14 @@
 use mathlib.Core.Path.{_≡_, sym, ap, _∙_}
 use mathlib.Core.List.{List, []}
 use mathlib.Core.Bool.{cond}
-use Prim.Native.Nat.{ℕ, zero, suc, _*_, _/_, _%_, _<_}
+use Prim.Native.Nat.{ℕ, zero, suc, _*_, _/_, _%_, _≤_, _<_}
 use native.Mathlib.Omega.{arith}
 use borrow.Author.Tests.{eqb-true, eqb-false}
 use lib.Dec.{eqb}
 use lib.ListN.{length, getD, set}
 use lib.Seq.{getD-set-same, getD-set-other, ext-getD}
 use Rattle.lists.specs.Laws.{by-test}
-use Rattle.lists.specs.Tables.{getD-tab, tab-same}
+use Rattle.lists.specs.Tables.{getD-tab, tab-past, tab-same}
 use Rattle.lines.specs.Lines.{lineOf}
 use Rattle.lines.specs.Arrays.{unique}
 use Rattle.rules.specs.Model.{places, lineCount, Thread, vacant, Model, thread, line}
@@ -72,6 +72,13 @@ thread-at y x b w l p h = getD-tab places (threadOf b w) p vacant h
 
 pub line-at : (y x : ℕ) (b w l : List ℕ) (q : ℕ) → q < lineCount → line (modelOf y x b w l) q ≡ lineOf places l q
 line-at y x b w l q h = getD-tab lineCount (lineOf places l) q [] h
+
+-- past the places there is nobody, and past the lines no line
+pub thread-past : (y x : ℕ) (b w l : List ℕ) (p : ℕ) → places ≤ p → thread (modelOf y x b w l) p ≡ vacant
+thread-past y x b w l p h = tab-past places (threadOf b w) p vacant h
+
+pub line-past : (y x : ℕ) (b w l : List ℕ) (q : ℕ) → lineCount ≤ q → line (modelOf y x b w l) q ≡ []
+line-past y x b w l q h = tab-past lineCount (lineOf places l) q [] h
 
 -- ---- the model settles the arrays
 

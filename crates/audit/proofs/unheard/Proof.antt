@@ -5,12 +5,7 @@ use mathlib.Core.List.{[]}
 use mathlib.Core.Bool.{not}
 use native.Mathlib.Omega.{arith}
 use borrow.Author.Tests.{eq-eqb, ne-eqb}
-use lib.ListN.{List·getD-eq-default}
-use Rattle.lists.specs.Lists.{tab}
-use Rattle.lists.specs.Tables.{length-tab}
-use Rattle.rules.specs.Model.{places, vacant}
-use Rattle.table.specs.Cells.{threadOf}
-use Rattle.table.specs.Rows.{thread-at}
+use Rattle.table.specs.Rows.{thread-at, thread-past}
 use Rattle.audit.proofs.unheard.Statement.{statement}
 use Rattle.audit.proofs.unheard.Tie as tie
 
@@ -19,12 +14,9 @@ returns c = λ w. rw (ne-eqb (c .before .before .args .t .standing) 3 (c .if1 .t
 
 returns-2 : tie.Need-returns-2
 returns-2 c =
-    let at-if1 = c .before .before in
-    let at-before = at-if1 .before in
     λ w.
-    let f = at-before .before in
-    let v = length-tab places (threadOf (f .args .b .now) w) in
-    rw (eq-eqb (f .args .t .standing) 3 (at-if1 .if1 .left), List·getD-eq-default (tab places (threadOf (f .args .b .now) w)) vacant {n = f .args .r .0} (omega arith))
+    let f = c .before .before .before .before in
+    rw (eq-eqb (f .args .t .standing) 3 (c .before .before .if1 .left), thread-past 0 0 (f .args .b .now) w [] (f .args .r .0) (omega arith))
 
 listens-requires : tie.Need-listens-requires
 listens-requires c κs = search needs

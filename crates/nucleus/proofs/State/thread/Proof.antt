@@ -2,9 +2,8 @@
 use borrow.Author.Needs.{needs}
 use borrow.Author.Tests.{not-true, not-false}
 use mathlib.Core.Path.{sym, _∙_}
-use Rattle.table.specs.Rows.{thread-at}
-use Rattle.nucleus.specs.View.{held, refused, deskOf}
-use Rattle.nucleus.specs.Looks.{thread-past}
+use Rattle.table.specs.Rows.{thread-at, thread-past}
+use Rattle.nucleus.specs.View.{held, refused}
 use Rattle.nucleus.proofs.State.thread.Statement.{statement}
 use Rattle.nucleus.proofs.State.thread.Tie as tie
 
@@ -31,7 +30,7 @@ returns-2 c =
     let a = start .args in
     let s = a .self in
     held (at-consistent .consistent .ensures .yes (not-false _ (at-if1 .if1 .left)))
-    (c .vacancy2 .ensures ∙ sym (thread-past (deskOf s) (s .blocks) (s .words) (s .lines) (a .p .0) (c .before .if2 .taken)))
+    (c .vacancy2 .ensures ∙ sym (thread-past (s .last .0) (s .running .0) (s .blocks) (s .words) (s .lines) (a .p .0) (c .before .if2 .taken)))
 
 read-requires : tie.Need-read-requires
 read-requires c κs = search needs
