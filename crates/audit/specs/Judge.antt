@@ -3,34 +3,32 @@ use Prim.Native.Nat.{ℕ, zero, suc, _+_, _≤_, _<_, _^_}
 use mathlib.Core.Path.{_≡_, refl, sym, ap, _∙_}
 use mathlib.Core.Logic.{_≢_}
 use mathlib.Core.List.{List, [], _∷_}
-use mathlib.Core.Bool.{Bool, true, false, _&&_, _||_}
+use mathlib.Core.Bool.{true, false, _&&_}
 use native.Mathlib.Decide.{ℕ-discrete, decLt}
 use native.Mathlib.Omega.{arith}
 use lib.ListN.{length, getD}
 use lib.Dec.{eqb, ltb}
 use borrow.Author.Tests.{eqb-true, eq-eqb, ne-eqb, leb-true, lt-ltb, le-ltb, not-true}
 use Rattle.lists.specs.Lists.{none, bit, count}
-use Rattle.lists.specs.Laws.{by-test, never, and-left, and-right}
-use Rattle.lists.specs.Counts.{count-nobody}
+use Rattle.lists.specs.Laws.{never, and-left, and-right}
 use Rattle.rules.specs.Values.{nobody}
-use Rattle.rules.specs.Model.{places, lastNumber, Empty, Ready, Sending, Awaiting, Receiving, Waiting, Thread, vacant, Model, ready, clock, inbox, lineCount, thread, line}
-use Rattle.rules.specs.Rules.{hears, isNil, wants}
+use Rattle.rules.specs.Model.{places, lastNumber, Empty, Ready, Sending, Awaiting, Waiting, Thread, vacant, Model, ready, clock, inbox, lineCount, thread, line}
+use Rattle.rules.specs.Rules.{hears, isNil}
 use Rattle.rules.specs.Consistent.{isNumber, belongs, Consistent}
+use Rattle.order.specs.Sound.{Fit, Sound, whole, out, inside}
 use Rattle.order.specs.Belongs.{in-none, in-ready, in-clock}
 use Rattle.audit.specs.Tests.{fits, astray, home, runsAlone, unheard, placeTest, deskTest, Whereabouts, Index}
-use Rattle.audit.specs.Alone.{Fit, fit-of, empty-of, named, home-none, no-line, out, inside, found}
+use Rattle.audit.specs.Alone.{fit-of, named, home-none, no-line, found}
 
 module _ (m : Model) (sized : length (m .threads) ≡ places) (lined : length (m .lines) ≡ lineCount) (at who : List ℕ) (W : Whereabouts m at) (X : Index m who)
     (bounds : (p : ℕ) → (thread m p .word < 2 ^ 32) × (thread m p .answer < 2 ^ 32))
     (good : (p : ℕ) → p < places → placeTest m at who p ≡ true) (desk : deskTest m ≡ true) where
-  fitting : (p : ℕ) → p < places → fits (thread m p) ≡ true
-  fitting p h = and-left (fits (thread m p)) _ (good p h)
+  fit : (p : ℕ) → Fit (thread m p)
+  fit p = fit-of (thread m p) (elim (decLt p places) [ yes h ↦ and-left (fits (thread m p)) _ (good p h) | no h ↦ rw (out m sized p (omega arith)) ]) (bounds p)
 
-  fit : (p : ℕ) → thread m p .standing ≢ Empty → Fit (thread m p)
-  fit p k = fit-of (thread m p) k (fitting p (inside m sized p k))
-
-  cleaned : (p : ℕ) → thread m p .standing ≡ Empty → thread m p ≡ vacant
-  cleaned p z = elim (decLt p places) [ yes h ↦ empty-of (thread m p) z (fitting p h) | no h ↦ out m sized p (omega arith) ]
+  -- whoever has a thread's number lives: an empty place has the number of nobody
+  numbered : (r : ℕ) → thread m r .number ≤ lastNumber → thread m r .standing ≢ Empty
+  numbered r h z = let c = ap (λ (t : Thread). t .number) (fit r .clean z) in omega arith
 
   good₁ : (p : ℕ) → p < places → runsAlone (m .running) p (thread m p) && (eqb (getD at p 0) (home who (thread m p)) && unheard (thread m (getD who (thread m p .partner) 0)) (thread m p)) ≡ true
   good₁ p h = and-right (fits (thread m p)) _ (good p h)
@@ -68,7 +66,7 @@ module _ (m : Model) (sized : length (m .threads) ≡ places) (lined : length (m
       → (thread m (getD who (thread m p .partner) 0) .standing ≢ Empty) × (thread m (getD who (thread m p .partner) 0) .number ≡ thread m p .partner)
   lives-there p i j =
       let l = partner p i j in
-      let b = X .back (thread m p .partner) (named (thread m p) (fit p (λ z. omega arith) .table) i j) (λ z. omega arith) in
+      let b = X .back (thread m p .partner) (named (thread m p) (fit p .table (λ z. omega arith)) i j) (λ z. omega arith) in
       (b .1, b .2)
 
   -- a sender's home is the inbox of its partner's place, and no other
@@ -80,12 +78,12 @@ module _ (m : Model) (sized : length (m .threads) ≡ places) (lined : length (m
   sender-belongs p z (suc zero) = rw (sender-home p z, z) (ne-eqb (inbox (getD who (thread m p .partner) 0)) 1 (omega arith))
   sender-belongs p z (suc (suc r)) =
       let v = lives-there p (omega arith) (omega arith) in
-      let low : thread m p .partner ≤ lastNumber = named (thread m p) (fit p (λ y. omega arith) .table) (omega arith) (omega arith) in
+      let low : thread m p .partner ≤ lastNumber = named (thread m p) (fit p .table (λ y. omega arith)) (omega arith) (omega arith) in
       rw (sender-home p z, z)
       (elim (ℕ-discrete (getD who (thread m p .partner) 0) r) [
         | yes e ↦ eq-eqb (inbox (getD who (thread m p .partner) 0)) (inbox r) (ap inbox e) ∙ sym (eq-eqb (thread m p .partner) (thread m r .number) (sym (rw e at (v .1))))
         | no k ↦ ne-eqb (inbox (getD who (thread m p .partner) 0)) (inbox r) (λ y. k (omega arith)) ∙ sym (ne-eqb (thread m p .partner) (thread m r .number) (λ y.
-            k (found m sized X r (thread m p .partner) (λ y₀. let c = ap (λ (t : Thread). t .number) (cleaned r y₀) in omega arith) (sym y))))
+            k (found m sized X r (thread m p .partner) (numbered r (omega arith)) (sym y))))
       ])
 
   -- each line holds those who belong there
@@ -104,7 +102,7 @@ module _ (m : Model) (sized : length (m .threads) ≡ places) (lined : length (m
       past (suc (suc r)) h = elim (ℕ-discrete (thread m p .standing) Sending) [
         | no k ↦ rw (ne-eqb (thread m p .standing) Sending k)
         | yes z ↦
-            let low = named (thread m p) (fit p (λ y. omega arith) .table) (omega arith) (omega arith) in
+            let low = named (thread m p) (fit p .table (λ y. omega arith)) (omega arith) (omega arith) in
             rw (out m sized r (omega arith), ne-eqb (thread m p .partner) nobody (omega arith), z)
       ]
 
@@ -133,46 +131,35 @@ module _ (m : Model) (sized : length (m .threads) ≡ places) (lined : length (m
         ]
       ]
 
-  -- whoever stands in r's inbox sends to r, and r does not wait to hear it
-  deaf : (r p : ℕ) → thread m r .standing ≢ Empty → belongs m (thread m p) (inbox r) ≡ true → hears (thread m r) (thread m p .number) ≡ false
-  deaf r p k e =
-      let z : thread m p .standing ≡ Sending = eqb-true _ _ (and-left (eqb (thread m p .standing) Sending) (eqb (thread m p .partner) (thread m r .number)) e) in
-      let n : thread m p .partner ≡ thread m r .number = eqb-true _ _ (and-right (eqb (thread m p .standing) Sending) (eqb (thread m p .partner) (thread m r .number)) e) in
-      let f = found m sized X r (thread m p .partner) k (sym n) in
+  -- whoever sends to r is not one that r is waiting to hear
+  deaf : (r p : ℕ) → thread m p .standing ≡ Sending → thread m p .partner ≡ thread m r .number → hears (thread m r) (thread m p .number) ≡ false
+  deaf r p z n =
+      let low : thread m p .partner ≤ lastNumber = named (thread m p) (fit p .table (λ y. omega arith)) (omega arith) (omega arith) in
+      let f = found m sized X r (thread m p .partner) (numbered r (omega arith)) (sym n) in
       not-true _ (rw (f, z) at (silent p (inside m sized p (λ y. omega arith))))
 
-  -- a place is in no inbox whose owner waits to hear it
-  out-of : (r p : ℕ) → thread m r .standing ≡ Receiving → wants (thread m r .partner) (thread m p .number) ≡ true → count p (line m (inbox r)) ≡ 0
-  out-of r p z w =
-      stood p (inbox r) ∙ by-test {G = bit (belongs m (thread m p) (inbox r)) ≡ 0} (belongs m (thread m p) (inbox r))
-      (λ e. let d : wants (thread m r .partner) (thread m p .number) ≡ false = rw z at (deaf r p (λ y. omega arith) e) in never w d)
-      (λ e. rw e)
+  differ : (p r : ℕ) → thread m p .standing ≢ Empty → thread m p .number ≡ thread m r .number → p ≡ r
+  differ p r k e =
+      let low = fit p .number k in
+      sym (found m sized X p (thread m p .number) k refl) ∙ found m sized X r (thread m p .number) (numbered r (omega arith)) (sym e)
 
-  pub judged : Consistent m
-  judged = record {
+  steady : Sound m
+  steady = record {
     threads = sized;
     lines = lined;
-    words = bounds;
-    differ = λ p r k l e. sym (found m sized X p (thread m p .number) k refl) ∙ found m sized X r (thread m p .number) l (sym e);
-    numbers = λ p k. fit p k .number;
     last = leb-true _ _ (and-left (isNumber (m .last)) _ desk);
-    one = λ p z. eqb-true _ _ (rw z at (and-left (runsAlone (m .running) p (thread m p)) _ (good₁ p (inside m sized p (λ y. omega arith)))));
+    fits = fit;
+    differ = differ;
+    alone = λ p z. eqb-true _ _ (rw z at (and-left (runsAlone (m .running) p (thread m p)) _ (good₁ p (inside m sized p (λ y. omega arith)))));
     busy = λ k. eqb-true _ _ (rw (ne-eqb (m .running) none k) at (and-right (isNumber (m .last)) _ desk));
-    settled = λ z. nil (line m ready) (rw (eq-eqb (m .running) none z) at (and-right (isNumber (m .last)) _ desk));
-    stood = stood;
-    table = λ p k. fit p k .table;
     served = λ p i j. let v = lives-there p i j in (getD who (thread m p .partner) 0, v .0, v .1);
-    apart = λ p k. fit p k .apart;
-    any = λ r z n. count-nobody (line m (inbox r)) (λ p. out-of r p z (rw n));
-    from = λ r p z n. out-of r p z (rw (n, eq-eqb (thread m p .number) (thread m p .number) refl) (either (eqb (thread m p .number) nobody)));
-    answers = λ p. elim (ℕ-discrete (thread m p .standing) Empty) [ yes z ↦ rw (cleaned p z) | no k ↦ fit p k .answer ];
-    clean = cleaned;
+    deaf = deaf;
+    stood = stood;
   }
+
+  pub judged : Consistent m
+  judged = whole m steady (λ z. nil (line m ready) (rw (eq-eqb (m .running) none z) at (and-right (isNumber (m .last)) _ desk)))
     where
       nil : (l : List ℕ) → isNil l ≡ true → l ≡ []
       nil [] e = refl
       nil (x ∷ l) e = never refl (sym e)
-
-      either : (a : Bool) → a || true ≡ true
-      either true = refl
-      either false = refl

@@ -2,25 +2,25 @@
 use Prim.Native.Nat.{ℕ, _+_, _≤_, _<_}
 use mathlib.Core.Path.{_≡_, refl, sym, ap, _∙_}
 use mathlib.Core.Logic.{_≢_}
-use mathlib.Core.List.{List, []}
-use mathlib.Core.Bool.{true, false, not}
+use mathlib.Core.List.{List}
+use mathlib.Core.Bool.{true, false}
 use native.Mathlib.Decide.{ℕ-discrete}
 use native.Mathlib.Omega.{arith}
-use lib.ListN.{length, getD}
+use lib.ListN.{getD}
 use lib.Dec.{eqb}
 use borrow.Author.Tests.{eqb-true, eq-eqb, ne-eqb, le-leb, lt-ltb}
-use Rattle.lists.specs.Lists.{none, count}
-use Rattle.lists.specs.Laws.{by-test, never, and-left, and-right, and-both}
+use Rattle.lists.specs.Lists.{none}
+use Rattle.lists.specs.Laws.{never, and-both}
 use Rattle.lists.specs.Tables.{bit-same}
-use Rattle.rules.specs.Values.{nobody}
-use Rattle.rules.specs.Model.{places, Empty, Running, Ready, Sending, Awaiting, Receiving, Waiting, Model, ready, clock, inbox, lineCount, thread, line}
-use Rattle.rules.specs.Rules.{hears, isNil, wants}
+use Rattle.rules.specs.Model.{places, Running, Ready, Sending, Awaiting, Waiting, Model, ready, clock, inbox, lineCount, thread}
+use Rattle.rules.specs.Rules.{isNil}
 use Rattle.rules.specs.Consistent.{isNumber, belongs, Consistent}
+use Rattle.order.specs.Sound.{sound, inside}
 use Rattle.order.specs.Belongs.{in-none}
 use Rattle.audit.specs.Tests.{fits, home, runsAlone, unheard, placeTest, deskTest, Whereabouts, Index}
-use Rattle.audit.specs.Alone.{fits-live, home-none, inside, found}
+use Rattle.audit.specs.Alone.{fit-fits, home-none, found}
 
-module _ (m : Model) (sized : length (m .threads) ≡ places) (at who : List ℕ) (W : Whereabouts m at) (X : Index m who) (C : Consistent m) where
+module _ (m : Model) (at who : List ℕ) (W : Whereabouts m at) (X : Index m who) (C : Consistent m) where
   -- where p stands is where its standing puts it
   standing-at : (p q : ℕ) → p < places → q < lineCount → eqb (getD at p 0) q ≡ belongs m (thread m p) q
   standing-at p q h l = bit-same (eqb (getD at p 0) q) (belongs m (thread m p) q) (sym (W .within p q h l) ∙ C .stood p q)
@@ -42,8 +42,8 @@ module _ (m : Model) (sized : length (m .threads) ≡ places) (at who : List ℕ
       → (getD who (thread m p .partner) 0 < places) × (thread m (getD who (thread m p .partner) 0) .number ≡ thread m p .partner)
   meets p i j =
       let v = C .served p i j in
-      let f = found m sized X (v .0) (thread m p .partner) (v .1) (v .2) in
-      (rw f (inside m sized (v .0) (v .1)), rw f (v .2))
+      let f = found m (C .threads) X (v .0) (thread m p .partner) (v .1) (v .2) in
+      (rw f (inside m (C .threads) (v .0) (v .1)), rw f (v .2))
 
   home-at : (p : ℕ) → p < places → getD at p 0 ≡ home who (thread m p)
   home-at p h = elim (ℕ-discrete (thread m p .standing) Ready) [
@@ -68,39 +68,15 @@ module _ (m : Model) (sized : length (m .threads) ≡ places) (at who : List ℕ
         | no d ↦ home-none who (thread m p) a b d c
       ]
 
-  fit-at : (p : ℕ) → fits (thread m p) ≡ true
-  fit-at p = elim (ℕ-discrete (thread m p .standing) Empty) [
-    | yes z ↦ rw (C .clean p z)
-    | no k ↦ fits-live (thread m p) k (record { number = C .numbers p k; table = C .table p k; apart = C .apart p k; answer = C .answers p })
-  ]
-
   quiet : (p : ℕ) → unheard (thread m (getD who (thread m p .partner) 0)) (thread m p) ≡ true
   quiet p = elim (ℕ-discrete (thread m p .standing) Sending) [
     | no k ↦ rw (ne-eqb (thread m p .standing) Sending k)
-    | yes z ↦ rw z (by-test {G = not (hears (thread m (getD who (thread m p .partner) 0)) (thread m p .number)) ≡ true} (hears (thread m (getD who (thread m p .partner) 0)) (thread m p .number)) (λ e. absurd (heard z e)) (λ e. rw e))
+    | yes z ↦ let d = sound m C .deaf (getD who (thread m p .partner) 0) p z (sym (meets p (omega arith) (omega arith) .1)) in rw (z, d)
   ]
-    where
-      r : ℕ
-      r = getD who (thread m p .partner) 0
-
-      inboxed : thread m p .standing ≡ Sending → count p (line m (inbox (getD who (thread m p .partner) 0))) ≡ 1
-      inboxed z =
-          let v = meets p (omega arith) (omega arith) in
-          C .stood p (inbox (getD who (thread m p .partner) 0)) ∙ rw (z, v .1, eq-eqb (thread m p .partner) (thread m p .partner) refl)
-
-      heard : thread m p .standing ≡ Sending → hears (thread m (getD who (thread m p .partner) 0)) (thread m p .number) ≡ true → ⊥
-      heard z e =
-          let i = inboxed z in
-          let five : thread m (getD who (thread m p .partner) 0) .standing ≡ Receiving = eqb-true _ _ (and-left _ (wants (thread m (getD who (thread m p .partner) 0) .partner) (thread m p .number)) e) in
-          let w : wants (thread m (getD who (thread m p .partner) 0) .partner) (thread m p .number) ≡ true = and-right (eqb (thread m (getD who (thread m p .partner) 0) .standing) Receiving) _ e in
-          elim (ℕ-discrete (thread m (getD who (thread m p .partner) 0) .partner) nobody) [
-            | yes y ↦ let l : count p [] ≡ 1 = rw (C .any _ five y) at i in omega arith
-            | no k ↦ let y = C .from (getD who (thread m p .partner) 0) p five (eqb-true _ _ (rw (ne-eqb _ nobody k) at w)) in omega arith
-          ]
 
   pub passes : (p : ℕ) → p < places → placeTest m at who p ≡ true
   passes p h =
-      and-both (fits (thread m p)) _ (fit-at p)
+      and-both (fits (thread m p)) _ (fit-fits (thread m p) (sound m C .fits p))
       (and-both (runsAlone (m .running) p (thread m p)) _ alone
       (and-both (eqb (getD at p 0) (home who (thread m p))) _ (eq-eqb _ _ (home-at p h)) (quiet p)))
     where

@@ -5,10 +5,10 @@ use mathlib.Core.List.{List, []}
 use mathlib.Core.Bool.{Bool, true, false, _&&_}
 use native.Mathlib.Decide.{decLt}
 use native.Mathlib.Omega.{arith}
-use lib.ListN.{length, getD, List·getD-eq-default}
+use lib.ListN.{length, getD}
 use lib.Dec.{eqb}
 use borrow.Author.Tests.{eqb-true, eq-eqb}
-use Rattle.lists.specs.Lists.{bit, tab}
+use Rattle.lists.specs.Lists.{bit}
 use Rattle.lists.specs.Laws.{never, and-left, and-right}
 use Rattle.lists.specs.Counts.{distinct-count, among-none}
 use Rattle.lists.specs.Tables.{length-tab}
@@ -17,10 +17,10 @@ use Rattle.lines.specs.Lines as Lines
 use Rattle.lines.specs.Lines.{lineOf, Tidy}
 use Rattle.lines.specs.Arrays.{once}
 use Rattle.lines.specs.Along.{no-place}
-use Rattle.rules.specs.Model.{places, lineCount, vacant}
+use Rattle.rules.specs.Model.{places, lineCount}
 use Rattle.rules.specs.Consistent.{Consistent}
 use Rattle.table.specs.Cells.{cell, byteRows, wordRows, threadOf, modelOf, shown, Filled, Stands}
-use Rattle.table.specs.Rows.{thread-at, line-at}
+use Rattle.table.specs.Rows.{thread-at, thread-past, line-at, line-past}
 use Rattle.table.specs.declared.Desk.{Desk}
 use Rattle.audit.specs.Tests.{placeTest, deskTest, Whereabouts}
 use Rattle.audit.specs.Judge.{judged}
@@ -47,7 +47,7 @@ module _ {x : ℕ} {b w at : List ℕ} where
     no = λ e. record {
       never = λ y l W C.
           let v = t .no e in
-          never (passes (modelOf y x b w l) (length-tab places (threadOf b w)) at who W (indexed y x w l k) C (v .0) (v .1)) (v .2);
+          never (passes (modelOf y x b w l) at who W (indexed y x w l k) C (v .0) (v .1)) (v .2);
     };
   }
 
@@ -57,7 +57,7 @@ found {l} {at} y x b w k = record {
   within = λ p q h i. rw (line-at y x b w l q i) (distinct-count p (lineOf places l q) (once places lineCount (omega arith) l (k .tidy) q i) ∙ ap bit (k .here p q h i));
   beyond = λ p q h. elim (decLt q lineCount) [
     | yes i ↦ rw (line-at y x b w l q i) (among-none p (lineOf places l q) (no-place (k .tidy) (omega arith) p q i h))
-    | no i ↦ let v = length-tab lineCount (lineOf places l) in rw (List·getD-eq-default (tab lineCount (lineOf places l)) [] {n = q} (omega arith))
+    | no i ↦ rw (line-past y x b w l q (omega arith))
   ];
   sure = k .sure;
 }
@@ -71,7 +71,7 @@ consists d {b} {w} {l} {at} k s e fit =
     (indexed (d .last .0) (d .running .0) w l (s .index))
     (λ p. elim (decLt p places) [
       | yes h ↦ rw (thread-at (d .last .0) (d .running .0) b w l p h) (fit (cell 0 p), fit (cell 1 p))
-      | no h ↦ let v = length-tab places (threadOf b w) in rw (List·getD-eq-default (tab places (threadOf b w)) vacant {n = p} (omega arith)) (omega arith, omega arith)
+      | no h ↦ rw (thread-past (d .last .0) (d .running .0) b w l p (omega arith)) (omega arith, omega arith)
     ])
     (s .tests) e
 

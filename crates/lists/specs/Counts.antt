@@ -60,11 +60,6 @@ among-some p (x ∷ xs) h =
     let ih = among-some p xs in
     by-test (eqb x p) (λ e. rw e (omega arith)) (λ e. let g : among p xs ≡ true = rw e at h in let i = ih g in rw e (omega arith))
 
--- a list in which nobody stands is empty
-pub count-nobody : (l : List ℕ) → ((p : ℕ) → count p l ≡ 0) → l ≡ []
-count-nobody [] h = refl
-count-nobody (x ∷ l) h = absurd (let a = h x in let b = count-self x l in omega arith)
-
 -- where nobody stands twice, a count is a test
 pub distinct-count : (p : ℕ) (xs : List ℕ) → Distinct xs → count p xs ≡ bit (among p xs)
 distinct-count p [] d = refl

@@ -49,14 +49,21 @@ pub record Sound (m : Model) : Type 0 where
   pub deaf : (r p : ℕ) → thread m p .standing ≡ Sending → thread m p .partner ≡ thread m r .number → hears (thread m r) (thread m p .number) ≡ false
   pub stood : (p q : ℕ) → count p (line m q) ≡ bit (belongs m (thread m p) q)
 
+-- ---- what the sizes give
+
+module _ (m : Model) (sized : length (m .threads) ≡ places) where
+  -- past the places there is nobody
+  pub out : (p : ℕ) → places ≤ p → thread m p ≡ vacant
+  out p h = List·getD-eq-default (m .threads) vacant {n = p} (omega arith)
+
+  -- a live thread stands at one of the places
+  pub inside : (p : ℕ) → thread m p .standing ≢ Empty → p < places
+  inside p k = elim (decLt p places) [ yes h ↦ h | no h ↦ absurd (k (ap (λ (t : Thread). t .standing) (out p (omega arith)))) ]
+
 -- ---- what a Sound nucleus gives at once
 
--- a live thread stands at one of the places
 pub small : (m : Model) → Sound m → (p : ℕ) → thread m p .standing ≢ Empty → p < places
-small m S p h = elim (decLt p places) [
-  | yes l ↦ l
-  | no n ↦ absurd (h (ap (λ (t : Thread). t .standing) (List·getD-eq-default (m .threads) vacant {n = p} (omega (arith, S .threads)))))
-]
+small m S p h = inside m (S .threads) p h
 
 -- whoever stands in a line belongs there
 pub member : (m : Model) → Sound m → (p q : ℕ) → 1 ≤ count p (line m q) → belongs m (thread m p) q ≡ true
