@@ -1,5 +1,5 @@
 -- Where all tests hold the nucleus is consistent (`judged`).
-use Prim.Native.Nat.{ℕ, zero, suc, _+_, _≤_, _<_, _^_}
+use Prim.Native.Nat.{ℕ, zero, suc, _≤_, _<_, _^_}
 use mathlib.Core.Path.{_≡_, refl, sym, ap, _∙_}
 use mathlib.Core.Logic.{_≢_}
 use mathlib.Core.List.{List, [], _∷_}
@@ -71,7 +71,7 @@ module _ (m : Model) (sized : length (m .threads) ≡ places) (lined : length (m
 
   -- a sender's home is the inbox of its partner's place, and no other
   sender-home : (p : ℕ) → thread m p .standing ≡ Sending → home who (thread m p) ≡ inbox (getD who (thread m p .partner) 0)
-  sender-home p z = let l = lt-ltb _ _ (partner p (omega arith) (omega arith)) in let e : 2 + getD who (thread m p .partner) 0 ≡ inbox (getD who (thread m p .partner) 0) = omega arith in rw (z, l) e
+  sender-home p z = rw (z, lt-ltb _ _ (partner p (omega arith) (omega arith)))
 
   sender-belongs : (p : ℕ) → thread m p .standing ≡ Sending → (q : ℕ) → eqb (home who (thread m p)) q ≡ belongs m (thread m p) q
   sender-belongs p z zero = rw (sender-home p z, z) (ne-eqb (inbox (getD who (thread m p .partner) 0)) 0 (omega arith))

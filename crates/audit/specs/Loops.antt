@@ -16,7 +16,7 @@ use Rattle.lists.specs.Laws.{never}
 use Rattle.lists.specs.Tells.{Tells}
 use Rattle.lines.specs.Lines.{lineOf, Tidy}
 use Rattle.lines.specs.Along.{no-place}
-use Rattle.rules.specs.Model.{places, lineCount, lastNumber, Empty, Running, Thread, Model, thread}
+use Rattle.rules.specs.Model.{places, lineCount, lastNumber, Empty, Running, Thread, Model, thread, ready}
 use Rattle.rules.specs.Consistent.{Consistent}
 use Rattle.table.specs.Cells.{cell, modelOf, standsAt}
 use Rattle.table.specs.Rows.{thread-at, thread-past, line-at}
@@ -125,8 +125,8 @@ module _ (y x : ℕ) (b w l : List ℕ) where
   desk-last h = rw (lt-leb y lastNumber h)
 
   module _ (low : y ≤ lastNumber) where
-    pub desk-idle : Tidy places lineCount l → x ≡ none → (r : ℕ) → r ≡ front (lineOf places l 0) → eqb r none ≡ deskTest (modelOf y x b w l)
-    desk-idle t z r e = rw (le-leb y lastNumber low, eq-eqb x none z, line-at y x b w l 0 (omega arith), e) (nil-front (lineOf places l 0) (no-place t (omega arith) none 0 (omega arith) (omega arith)))
+    pub desk-idle : Tidy places lineCount l → x ≡ none → (r : ℕ) → r ≡ front (lineOf places l ready) → eqb r none ≡ deskTest (modelOf y x b w l)
+    desk-idle t z r e = rw (le-leb y lastNumber low, eq-eqb x none z, line-at y x b w l ready (omega arith), e) (nil-front (lineOf places l ready) (no-place t (omega arith) none ready (omega arith) (omega arith)))
 
     module _ (busy : x ≢ none) where
       pub desk-high : places ≤ x → false ≡ deskTest (modelOf y x b w l)

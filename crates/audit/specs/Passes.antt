@@ -1,5 +1,5 @@
 -- A consistent nucleus passes each test (`passes`, `seated`): the tests refuse no nucleus that is consistent.
-use Prim.Native.Nat.{ℕ, _+_, _≤_, _<_}
+use Prim.Native.Nat.{ℕ, _≤_, _<_}
 use mathlib.Core.Path.{_≡_, refl, sym, ap, _∙_}
 use mathlib.Core.Logic.{_≢_}
 use mathlib.Core.List.{List}
@@ -54,9 +54,8 @@ module _ (m : Model) (at who : List ℕ) (W : Whereabouts m at) (X : Index m who
         | yes z ↦
             let v = meets p (omega arith) (omega arith) in
             let r = getD who (thread m p .partner) 0 in
-            let e : inbox r ≡ 2 + r = omega arith in
             in-line p (inbox r) h (omega (arith, v .0)) (rw (z, v .1, eq-eqb (thread m p .partner) (thread m p .partner) refl))
-            ∙ e ∙ sym (rw (z, lt-ltb r places (v .0)))
+            ∙ sym (rw (z, lt-ltb r places (v .0)))
         | no b ↦ in-no-line p h (in-none m (thread m p) a b c) ∙ sym (homeless a b c)
       ]
     ]

@@ -1,6 +1,6 @@
 -- The tests that the code makes of one place, given where each place stands (`at`, a line or none) and where each number lives (`who`, a
 -- place or none). With those two arrays no test looks at more than two places, so that the whole is linear.
-use Prim.Native.Nat.{ℕ, _+_, _≤_, _<_}
+use Prim.Native.Nat.{ℕ, _≤_, _<_}
 use mathlib.Core.Path.{_≡_}
 use mathlib.Core.Logic.{_≢_}
 use mathlib.Core.List.{List}
@@ -9,7 +9,7 @@ use lib.ListN.{getD}
 use lib.Dec.{eqb, ltb}
 use Rattle.lists.specs.Lists.{none, bit, count}
 use Rattle.rules.specs.Values.{nobody}
-use Rattle.rules.specs.Model.{places, lastNumber, Empty, Running, Ready, Sending, Awaiting, Waiting, Thread, Model, ready, clock, lineCount, thread, line}
+use Rattle.rules.specs.Model.{places, lastNumber, Empty, Running, Ready, Sending, Awaiting, Waiting, Thread, Model, ready, clock, inbox, lineCount, thread, line}
 use Rattle.rules.specs.Rules.{idle, hears, isNil}
 use Rattle.rules.specs.Consistent.{isNumber, asTable, isAnswer}
 
@@ -33,7 +33,7 @@ home who t =
     let r = getD who (t .partner) 0 in
     cond (eqb (t .standing) Ready) ready
     (cond (eqb (t .standing) Waiting) clock
-    (cond (eqb (t .standing) Sending) (cond (ltb r places) (2 + r) astray)
+    (cond (eqb (t .standing) Sending) (cond (ltb r places) (inbox r) astray)
     (cond (eqb (t .standing) Awaiting) (cond (ltb r places) none astray)
     none)))
 

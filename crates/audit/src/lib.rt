@@ -17,6 +17,7 @@ use lines::NONE;
 use lines::PLACES;
 use rules::AWAITING;
 use rules::EMPTY;
+use rules::ENDED;
 use rules::LAST_NUMBER;
 use rules::NOBODY;
 use rules::Number;
@@ -36,6 +37,9 @@ const LIMIT: u8 = PLACES as u8;
 
 // The home of one whose partner is not live: no line, and not NONE.
 const ASTRAY: u8 = 254;
+
+// The index of numbers has an entry for each byte: any may come as a number.
+const ENTRIES: usize = 256;
 
 // A byte as an index.
 fn wide(x: u8) -> usize
@@ -76,7 +80,7 @@ fn as_table(standing: u8, partner: Number, word: u32) -> bool
 fn is_answer(code: u8, who: Number, word: u32) -> bool
     ensures { λ r. ⌜ r ≡ isAnswer code (who .0) word ⌝ }
 {
-    ((code == 0) | (code == 16)) & (who.0 <= LAST_NUMBER)
+    ((code == 0) | (code == ENDED)) & (who.0 <= LAST_NUMBER)
         | (code == 0) & ((who.0 == NOBODY) & (word == 0))
 }
 
@@ -104,19 +108,23 @@ fn fits(t: Thread) -> bool
 // ---- a thread and its partner
 
 // The line into which its standing puts a thread, or NONE.
-fn home(who: &[u8; 256], t: Thread) -> u8
+fn home(who: &[u8; ENTRIES], t: Thread) -> u8
     ensures { λ r. ⌜ r ≡ homeOf (now (who .entry)) (asThread t) ⌝ }
 {
     let standing = t.standing;
     if standing == READY {
-        return 0;
+        return table::READY_LINE;
     }
     if standing == WAITING {
-        return 1;
+        return table::CLOCK_LINE;
     }
     let r = who[wide(t.partner.0)];
     if standing == SENDING {
-        return if r < LIMIT { 2 + r } else { ASTRAY };
+        return if r < LIMIT {
+            table::INBOX_LINES + r
+        } else {
+            ASTRAY
+        };
     }
     if standing == AWAITING {
         return if r < LIMIT { NONE } else { ASTRAY };
@@ -153,7 +161,7 @@ fn place(
     b: &Blocks,
     w: &Words,
     at: &[u8; PLACES],
-    who: &[u8; 256],
+    who: &[u8; ENTRIES],
     running: Place,
     p: Place,
 ) -> bool
@@ -169,7 +177,7 @@ fn place(
 // ---- the index of numbers
 
 // The thread at p, if one stands there, enters the index. False where its number is taken.
-fn enter(b: &Blocks, who: &mut [u8; 256], p: Place) -> bool
+fn enter(b: &Blocks, who: &mut [u8; ENTRIES], p: Place) -> bool
     requires { ⌜ (p .0 < places) × Entered (now b) (now who) (p .0) ⌝ }
     ensures { λ r. ⌜ Tells r (Entered (now (b .entry)) (now (who .exit)) (p .0 + 1)) (Twice (now (b .entry))) ⌝ }
 {
@@ -186,7 +194,7 @@ fn enter(b: &Blocks, who: &mut [u8; 256], p: Place) -> bool
 }
 
 // Every thread enters the index.
-fn index(b: &Blocks, who: &mut [u8; 256]) -> bool
+fn index(b: &Blocks, who: &mut [u8; ENTRIES]) -> bool
     requires { ⌜ Entered (now b) (now who) 0 ⌝ }
     ensures { λ r. ⌜ Tells r (Entered (now (b .entry)) (now (who .exit)) places) (Twice (now (b .entry))) ⌝ }
 {
@@ -203,7 +211,7 @@ fn index(b: &Blocks, who: &mut [u8; 256]) -> bool
 // ---- all places
 
 // Every place passes.
-fn every(b: &Blocks, w: &Words, at: &[u8; PLACES], who: &[u8; 256], running: Place) -> bool
+fn every(b: &Blocks, w: &Words, at: &[u8; PLACES], who: &[u8; ENTRIES], running: Place) -> bool
     ensures { λ r. ⌜ Every r (placeTest (modelOf 0 (running .0) (now (b .entry)) (now (w .entry)) []) (now (at .entry)) (now (who .entry))) ⌝ }
 {
     let mut p: u8 = 0;
@@ -241,7 +249,7 @@ fn seated(b: &Blocks, l: &Links, d: Desk) -> bool
     }
     let running = d.running.0;
     if running == NONE {
-        return lines::first(l, 0) == NONE;
+        return lines::first(l, table::READY_LINE) == NONE;
     }
     if running >= LIMIT {
         return false;
@@ -271,7 +279,7 @@ fn words(s: &[u32]) -> usize
 fn members(b: &Blocks, w: &Words, at: &[u8; PLACES], running: Place) -> bool
     ensures { λ r. ⌜ Tells r (Members (running .0) (now (b .entry)) (now (w .entry)) (now (at .entry))) (Strangers (running .0) (now (b .entry)) (now (w .entry)) (now (at .entry))) ⌝ }
 {
-    let mut who = [NONE; 256];
+    let mut who = [NONE; ENTRIES];
     if !index(b, &mut who) {
         return false;
     }

@@ -4,7 +4,7 @@ use mathlib.Core.Path.{_≡_, refl, sym, ap, subst, _∙_}
 use mathlib.Core.List.{List}
 use mathlib.Core.Logic.{_≢_}
 use mathlib.Core.Bool.{Bool, cond, not}
-use Prim.Native.Nat.{ℕ, suc, _+_, _≤_, _<_}
+use Prim.Native.Nat.{ℕ, _+_, _≤_, _<_}
 use native.Mathlib.Omega.{arith}
 use borrow.Author.Tests.{ne-eqb, lt-ltb, le-ltb}
 use lib.Dec.{eqb}
@@ -20,7 +20,7 @@ use Rattle.order.specs.Places.{placed, live-placed}
 use Rattle.order.specs.HandBack.{Handed, hands, lets}
 use Rattle.order.specs.End.{endLast}
 use Rattle.order.specs.Order.{written}
-use Rattle.table.specs.Cells.{cell, shown, Stands}
+use Rattle.table.specs.Cells.{cell, shown, Stands, inboxLines, inbox-line}
 use Rattle.table.specs.Rows.{thread-at}
 use Rattle.table.specs.Stores.{Wrote}
 use Rattle.table.specs.Clean.{emptied}
@@ -56,12 +56,11 @@ module _ {d : Desk} {b w l : List ℕ} {n p : ℕ} (k : Ends d b w l n p) where
   end-low = let low = sounds (k .stands) .fits p .number (lived .0) in rw (lived .1) at low
 
   -- those in the inbox have their word back
-  module _ {b₁ w₁ l₁ : List ℕ} (s : Steps b w l b₁ w₁ l₁ (drains (backs n) (2 + p))) where
+  module _ {b₁ w₁ l₁ : List ℕ} (s : Steps b w l b₁ w₁ l₁ (drains (backs n) (inboxLines + p))) where
     back-seen : shown d b₁ w₁ l₁ ≡ handedBack n p (line (shown d b w l) (inbox p)) (shown d b w l)
     back-seen =
         let m = shown d b w l in
-        let v : 2 + p ≡ suc (suc p) = omega arith in
-        s .seen (d .last .0) (d .running .0) ∙ rw v (handed-drained n p (line m (inbox p)) m)
+        s .seen (d .last .0) (d .running .0) ∙ rw (inbox-line p) (handed-drained n p (line m (inbox p)) m)
 
     handed : Handed (shown d b w l) p (shown d b₁ w₁ l₁)
     handed = let m = shown d b w l in rw back-seen (hands (line m (inbox p)) m (sounds (k .stands)) n p end-low (lived .0) refl)

@@ -2,7 +2,7 @@
 use mathlib.Core.Path.{_≡_, refl, sym, ap, _∙_}
 use mathlib.Core.List.{List}
 use mathlib.Core.Bool.{false, cond}
-use Prim.Native.Nat.{ℕ, suc, _+_, _<_}
+use Prim.Native.Nat.{ℕ, _+_, _<_}
 use native.Mathlib.Omega.{arith}
 use borrow.Author.Tests.{eq-eqb, ne-eqb, eqb-true}
 use lib.Dec.{eqb}
@@ -12,7 +12,7 @@ use Rattle.lists.specs.Laws.{by-test}
 use Rattle.lines.specs.Lines.{lineOf, Turned}
 use Rattle.rules.specs.Model.{places, lineCount, Running, Ready, Sending, Waiting, Thread, Model, ready, clock, inbox}
 use Rattle.rules.specs.Rules.{placeOf, runs, leave, outOfLine}
-use Rattle.table.specs.Cells.{cell, threadOf, shown, Whole}
+use Rattle.table.specs.Cells.{cell, threadOf, shown, Whole, inboxLines, inbox-line}
 use Rattle.table.specs.Rows.{thread-at}
 use Rattle.table.specs.declared.Desk.{Desk}
 use Rattle.verbs.specs.Steps.{Turns, running, left, stays}
@@ -22,7 +22,7 @@ use Rattle.verbs.specs.Find.{found, found-is}
 abbrev pub lineIn : List ℕ → ℕ → ℕ
 lineIn b p =
     cond (eqb (getD b (cell 1 p) 0) Ready) ready
-    (cond (eqb (getD b (cell 1 p) 0) Sending) (2 + found b (getD b (cell 2 p) 0))
+    (cond (eqb (getD b (cell 1 p) 0) Sending) (inbox (found b (getD b (cell 2 p) 0)))
     (cond (eqb (getD b (cell 1 p) 0) Waiting) clock none))
 
 -- if it sends, its partner stands at a place
@@ -58,8 +58,8 @@ module _ (b : List ℕ) (p : ℕ) {s : ℕ} (e : s ≡ getD b (cell 1 p) 0) wher
   line-ready z = rw (eq-eqb _ Ready (sym e ∙ z))
 
   module _ (n₂ : s ≡ Ready → ⊥) where
-    pub line-sending : s ≡ Sending → {k r : ℕ} → k ≡ getD b (cell 2 p) 0 → r ≡ found b k → 2 + r ≡ lineIn b p
-    line-sending z f g = rw (off Ready n₂, eq-eqb _ Sending (sym e ∙ z), g, f)
+    pub line-sending : s ≡ Sending → {k r : ℕ} → k ≡ getD b (cell 2 p) 0 → r ≡ found b k → inboxLines + r ≡ lineIn b p
+    line-sending z {r = r} f g = inbox-line r ∙ rw (off Ready n₂, eq-eqb _ Sending (sym e ∙ z), g, f)
 
     module _ (n₃ : s ≡ Sending → ⊥) where
       pub line-waiting : s ≡ Waiting → clock ≡ lineIn b p
@@ -102,8 +102,7 @@ module _ (d : Desk) (b l : List ℕ) {p : ℕ} (h : p < places) where
         (λ e. by-test (eqb st Sending)
         (λ f.
         let i = s (eqb-true st Sending f) in
-        let v : 2 + found b pa ≡ suc (suc (found b pa)) = omega arith in
-        rw (u, c, e, f, found-is (d .last .0) (d .running .0) pa b w l, v, ne-eqb (suc (suc (found b pa))) none (omega arith)))
+        rw (u, c, e, f, found-is (d .last .0) (d .running .0) pa b w l, ne-eqb (inbox (found b pa)) none (omega arith)))
         (λ f. by-test (eqb st Waiting)
         (λ g. rw (u, c, e, f, g))
         (λ g. rw (u, c, e, f, g))))

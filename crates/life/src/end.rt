@@ -24,16 +24,13 @@ use table::Desk;
 use table::Words;
 use verbs::address::find;
 
-// The code of an answer to those whose receiver has ended.
-const ENDED: u8 = 16;
-
 // p, which stands in no line and waited for the thread n that ends, has its own word back.
 fn give_back(b: &mut Blocks, w: &mut Words, l: &mut Links, n: Number, p: Place)
     requires { ⌜ Whole (now b) (now w) (now l) × (p .0 < places) × Loose lineCount (lineOf places (now l)) (p .0) ⌝ }
     ensures { λ r. ⌜ Steps (now (b .entry)) (now (w .entry)) (now (l .entry)) (now (b .exit)) (now (w .exit)) (now (l .exit)) (backs (n .0) (p .0)) ⌝ }
 {
     let word = table::word_of(w, p);
-    verbs::wake(b, w, l, p, ENDED, n, word);
+    verbs::wake(b, w, l, p, rules::ENDED, n, word);
 }
 
 // The first in line q, the inbox of the thread n that ends, has; false where nobody stands there.

@@ -13,7 +13,7 @@ ghost use Rattle.lines.specs.Steps.{Behind, Sought, Done};
 // The sizes. Their other home is `Sizes.antt` of crate `lists`, which the contracts cite; no other line names a number of places or lines.
 pub const PLACES: usize = 32;
 
-pub const LINES: usize = 34;
+pub const LINES: usize = 2 + PLACES;
 
 pub const NONE: u8 = 255;
 

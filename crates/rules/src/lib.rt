@@ -27,6 +27,9 @@ pub const RECEIVING: u8 = 5;
 
 pub const WAITING: u8 = 6;
 
+// The code of an answer to those whose receiver has ended. Every other answer has 0.
+pub const ENDED: u8 = 16;
+
 // What happens to the nucleus (document 01, "The eight events").
 pub enum Event {
     Create,
@@ -78,15 +81,15 @@ impl Choice {
         }
     }
 
-    // The number that runs, or 255.
+    // The number that runs, or that of nobody.
     pub fn runs(self) -> Number
         ensures { λ r. ⌜ r .0 ≡ choiceRuns self ⌝ }
     {
         match self {
             Choice::Run(n) => n,
-            Choice::Halt => Number(255),
-            Choice::Wait => Number(255),
-            Choice::Stuck => Number(255),
+            Choice::Halt => Number(NOBODY),
+            Choice::Wait => Number(NOBODY),
+            Choice::Stuck => Number(NOBODY),
         }
     }
 }

@@ -3,6 +3,7 @@ use mathlib.Core.Path.{_≡_}
 use mathlib.Core.List.{List}
 use mathlib.Core.Bool.{Bool, not}
 use Prim.Native.Nat.{ℕ, _+_, _*_}
+use native.Mathlib.Omega.{arith}
 use lib.Dec.{eqb}
 use lib.ListN.{length, getD}
 use Rattle.lists.specs.Lists.{tab}
@@ -24,6 +25,13 @@ byteRows = 5
 
 abbrev pub wordRows : ℕ
 wordRows = 2
+
+-- the code's INBOX_LINES: the lines before the inboxes, ready and clock
+abbrev pub inboxLines : ℕ
+inboxLines = 2
+
+pub inbox-line : (p : ℕ) → inboxLines + p ≡ Rules.inbox p
+inbox-line p = omega arith
 
 -- the thread at p: its bytes and its words
 abbrev pub threadOf : List ℕ → List ℕ → ℕ → Rules.Thread

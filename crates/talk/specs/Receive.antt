@@ -2,7 +2,7 @@
 use mathlib.Core.Path.{_≡_, refl, sym, ap, subst, _∙_}
 use mathlib.Core.List.{List}
 use mathlib.Core.Bool.{Bool, true, false, _&&_}
-use Prim.Native.Nat.{ℕ, suc, _+_, _≤_, _<_}
+use Prim.Native.Nat.{ℕ, _+_, _≤_, _<_}
 use native.Mathlib.Omega.{arith}
 use borrow.Author.Tests.{eq-eqb, ne-eqb}
 use lib.ListN.{getD}
@@ -18,7 +18,7 @@ use Rattle.rules.specs.declared.Event.the-variants.{Receive}
 use Rattle.order.specs.Accepted.{accepted}
 use Rattle.order.specs.Caller.{alive}
 use Rattle.order.specs.Stood.{stands-at}
-use Rattle.table.specs.Cells.{cell, modelOf, shown, Whole, Stands}
+use Rattle.table.specs.Cells.{cell, modelOf, shown, Whole, Stands, inboxLines, inbox-line}
 use Rattle.table.specs.Rows.{thread-at, line-at}
 use Rattle.table.specs.declared.Desk.{Desk}
 use Rattle.events.specs.declared.Outcome.{Outcome}
@@ -59,13 +59,12 @@ module _ {d : Desk} {b : List ℕ} (n : Number) where
 -- ---- a match is taken
 
 pub took : {b w l l₁ b₁ w₁ b₂ w₂ : List ℕ} {c p pa n x : ℕ} → Whole b w l → p < places → pa ≡ getD b (cell 2 p) 0 → n ≡ getD b (cell 0 p) 0 → x ≡ getD w (cell 0 p) 0
-    → Steps b w l b w l₁ (leave (2 + c) p) → Steps b w l₁ b₁ w₁ l₁ (changing p (stands Awaiting pa x)) → Steps b₁ w₁ l₁ b₂ w₂ l₁ (changing c (told 0 n x)) → Steps b w l b₂ w₂ l₁ (takes c p)
+    → Steps b w l b w l₁ (leave (inboxLines + c) p) → Steps b w l₁ b₁ w₁ l₁ (changing p (stands Awaiting pa x)) → Steps b₁ w₁ l₁ b₂ w₂ l₁ (changing c (told 0 n x)) → Steps b w l b₂ w₂ l₁ (takes c p)
 took {b} {w} {l} {c = c} {p} {pa} {n} {x} k h e f g r s t = record {
   whole = t .whole;
   seen = λ y z.
       let m = modelOf y z b w l in
-      let v : 2 + c ≡ suc (suc c) = omega arith in
-      then r (then s t) .seen y z ∙ rw (v, e, f, g)
+      then r (then s t) .seen y z ∙ rw (inbox-line c, e, f, g)
       (ap (λ (u : Thread). changing c (told 0 (u .number) (u .word)) (changing p (stands Awaiting (u .partner) (u .word)) (leave (inbox c) p m))) (sym (thread-at y z b w l p h)));
 }
 
@@ -79,7 +78,7 @@ inboxOf m = line m (inbox (m .running))
 abbrev suits : Model → ℕ → ℕ → Bool
 suits m n p = wants n (thread m p .number)
 
-module _ {d : Desk} {b w l : List ℕ} (k : Stands d b w l) (busy : d .running .0 ≡ none → ⊥) (n : ℕ) {r : ℕ} (f : r ≡ picked b l (2 + d .running .0) n) where
+module _ {d : Desk} {b w l : List ℕ} (k : Stands d b w l) (busy : d .running .0 ≡ none → ⊥) (n : ℕ) {r : ℕ} (f : r ≡ picked b l (inboxLines + d .running .0) n) where
   at-place : (p : ℕ) → 1 ≤ count p (inboxOf (shown d b w l)) → p < places
   at-place p h = stands-at (shown d b w l) (sounds k) p (inbox (d .running .0)) (some-among p (inboxOf (shown d b w l)) h)
 
@@ -87,8 +86,7 @@ module _ {d : Desk} {b w l : List ℕ} (k : Stands d b w l) (busy : d .running .
   search =
       let m = shown d b w l in
       let h = caller-place k busy in
-      let v : 2 + d .running .0 ≡ suc (suc (d .running .0)) = omega arith in
-      let e : inboxOf m ≡ lineOf places l (2 + d .running .0) = line-at (d .last .0) (d .running .0) b w l (inbox (d .running .0)) (omega arith) ∙ rw v in
+      let e : inboxOf m ≡ lineOf places l (inboxLines + d .running .0) = line-at (d .last .0) (d .running .0) b w l (inbox (d .running .0)) (omega arith) ∙ rw (inbox-line (d .running .0)) in
       first-ext-in (suits m n) (taken b n) (inboxOf m) (λ p i. ap (λ (t : Thread). wants n (t .number)) (thread-at (d .last .0) (d .running .0) b w l p (at-place p i)))
       ∙ ap (firstOf (taken b n)) e ∙ sym f
 

@@ -2,7 +2,7 @@
 use mathlib.Core.Path.{_≡_, refl, sym, ap, ap₂, _∙_}
 use mathlib.Core.List.{List, []}
 use mathlib.Core.Bool.{Bool, true, false}
-use Prim.Native.Nat.{ℕ, suc, _+_, _^_, _<_}
+use Prim.Native.Nat.{ℕ, _+_, _^_, _<_}
 use native.Mathlib.Omega.{arith}
 use borrow.Author.Tests.{eqb-true}
 use lib.ListN.{getD}
@@ -14,7 +14,7 @@ use Rattle.rules.specs.Rules.{placeOf, mine, join, stands, woken, hears, sendTo
 use Rattle.rules.specs.declared.Number.{Number}
 use Rattle.rules.specs.declared.Event.the-variants.{Send}
 use Rattle.order.specs.Belongs.{in-none}
-use Rattle.table.specs.Cells.{cell, threadOf, shown, Stands}
+use Rattle.table.specs.Cells.{cell, threadOf, shown, Stands, inboxLines, inbox-line}
 use Rattle.table.specs.Rows.{thread-at}
 use Rattle.table.specs.declared.Desk.{Desk}
 use Rattle.verbs.specs.declared.address.Address.{Address}
@@ -47,8 +47,8 @@ module _ {d : Desk} {b w l : List ℕ} {n p : ℕ} (k : Meets d b w l n p) {me :
     met y {x = x} z s = turns (send n x) s z (sym (looked x ∙ rw (listening, ← h, y)))
 
     -- it does not
-    pub unmet : t ≡ false → {e : Desk} {b′ w′ l′ : List ℕ} {x : ℕ} → e ≡ running none d → Steps b w l b′ w′ l′ (λ m. join (2 + p) (d .running .0) (changing (d .running .0) (stands Sending n x) m)) → Turns d b w l e b′ w′ l′ (send n x)
-    unmet y {x = x} z s = let v : 2 + p ≡ suc (suc p) = omega arith in turns (send n x) s z (sym (looked x ∙ rw (listening, ← h, y, v)))
+    pub unmet : t ≡ false → {e : Desk} {b′ w′ l′ : List ℕ} {x : ℕ} → e ≡ running none d → Steps b w l b′ w′ l′ (λ m. join (inboxLines + p) (d .running .0) (changing (d .running .0) (stands Sending n x) m)) → Turns d b w l e b′ w′ l′ (send n x)
+    unmet y {x = x} z s = turns (send n x) s z (sym (looked x ∙ rw (listening, ← h, y, inbox-line p)))
 
 -- ---- the event
 

@@ -1,6 +1,8 @@
 -- `home` meets its contract: the ways are those of the definition.
 use borrow.Author.Needs.{needs}
+use mathlib.Core.Path.{_∙_}
 use borrow.Author.Tests.{ne-eqb, lt-ltb, le-ltb}
+use Rattle.table.specs.Cells.{inbox-line}
 use Rattle.audit.proofs.home.Statement.{statement}
 use Rattle.audit.proofs.home.Tie as tie
 
@@ -20,7 +22,7 @@ add-result : tie.Need-add-result
 add-result c = search needs
 
 returns-3 : tie.Need-returns-3
-returns-3 c = rw (c .before .if3 .taken, ← c .before .before .before .wide .ensures .0, lt-ltb _ _ (c .if4 .taken))
+returns-3 c = inbox-line _ ∙ rw (c .before .if3 .taken, ← c .before .before .before .wide .ensures .0, lt-ltb _ _ (c .if4 .taken))
 
 returns-4 : tie.Need-returns-4
 returns-4 c = rw (c .before .if3 .taken, ← c .before .before .before .wide .ensures .0, le-ltb _ _ (c .if4 .left))
