@@ -163,19 +163,5 @@ pub fn same(kept: &[u8], i: usize, s: State) -> bool {
     if r.code != image::DONE {
         return false;
     }
-    equal(&kept[a..b], &image)
-}
-
-fn equal(a: &[u8], b: &[u8]) -> bool {
-    if a.len() != b.len() {
-        return false;
-    }
-    let mut i = 0;
-    while i < a.len() {
-        if a[i] != b[i] {
-            return false;
-        }
-        i += 1;
-    }
-    true
+    check::same(&kept[a..b], &image)
 }
