@@ -76,7 +76,7 @@ fn as_table(standing: u8, partner: Number, word: u32) -> bool
     false
 }
 
-// Code 0 or 16 and who a number, or 0, 255, 0.
+// An answer has code 0 or ENDED and who a number, or it is that of a new thread.
 fn is_answer(code: u8, who: Number, word: u32) -> bool
     ensures { λ r. ⌜ r ≡ isAnswer code (who .0) word ⌝ }
 {
@@ -84,7 +84,7 @@ fn is_answer(code: u8, who: Number, word: u32) -> bool
         | (code == 0) & ((who.0 == NOBODY) & (word == 0))
 }
 
-// The clean value of an empty place.
+// Does the place hold the clean value of an empty one?
 fn is_clean(t: Thread) -> bool
     ensures { λ r. ⌜ r ≡ isClean (asThread t) ⌝ }
 {
@@ -93,6 +93,7 @@ fn is_clean(t: Thread) -> bool
     (t.number.0 == NOBODY) & ((t.partner.0 == NOBODY) & ((t.word == 0) & empty))
 }
 
+// Is a place as it must be, taken alone?
 fn fits(t: Thread) -> bool
     ensures { λ r. ⌜ r ≡ fitting (asThread t) ⌝ }
 {
@@ -107,7 +108,7 @@ fn fits(t: Thread) -> bool
 
 // ---- a thread and its partner
 
-// The line into which its standing puts a thread, or NONE.
+// The line into which its standing puts a thread. NONE where that is no line, and ASTRAY where the partner that it must have is not live.
 fn home(who: &[u8; ENTRIES], t: Thread) -> u8
     ensures { λ r. ⌜ r ≡ homeOf (now (who .entry)) (asThread t) ⌝ }
 {
@@ -132,7 +133,7 @@ fn home(who: &[u8; ENTRIES], t: Thread) -> u8
     NONE
 }
 
-// The owner of the inbox in which t would stand, at r, does not wait to hear it.
+// Is the owner of the inbox in which t would stand, at r, not waiting to hear it?
 fn unheard(b: &Blocks, r: Place, t: Thread) -> bool
     ensures { λ r′. ⌜ ((w : List ℕ) → r′ ≡ quietTo (thread (modelOf 0 0 (now (b .entry)) w []) (r .0)) (asThread t)) ⌝ }
 {
@@ -146,7 +147,7 @@ fn unheard(b: &Blocks, r: Place, t: Thread) -> bool
     !table::listens(b, r, n)
 }
 
-// Whoever stands as running is the one that runs.
+// Is t, at p, the one that runs, if it stands as running?
 fn runs_alone(running: Place, p: Place, t: Thread) -> bool
     ensures { λ r. ⌜ r ≡ runsAlone (running .0) (p .0) (asThread t) ⌝ }
 {
@@ -156,7 +157,7 @@ fn runs_alone(running: Place, p: Place, t: Thread) -> bool
     true
 }
 
-// The place p, with all that it has to do with others.
+// Does the place p pass, with all that it has to do with others?
 fn place(
     b: &Blocks,
     w: &Words,
@@ -210,7 +211,7 @@ fn index(b: &Blocks, who: &mut [u8; ENTRIES]) -> bool
 
 // ---- all places
 
-// Every place passes.
+// Does every place pass?
 fn every(b: &Blocks, w: &Words, at: &[u8; PLACES], who: &[u8; ENTRIES], running: Place) -> bool
     ensures { λ r. ⌜ Every r (placeTest (modelOf 0 (running .0) (now (b .entry)) (now (w .entry)) []) (now (at .entry)) (now (who .entry))) ⌝ }
 {
@@ -239,7 +240,7 @@ pub fn filling(b: &Blocks) -> u32
     x
 }
 
-// The last number given, and who runs.
+// Is the last number given a number, and does the running place agree with standings and ready?
 fn seated(b: &Blocks, l: &Links, d: Desk) -> bool
     requires { ⌜ Tidy places lineCount (now l) ⌝ }
     ensures { λ r. ⌜ ((w : List ℕ) → r ≡ deskTest (shown d (now (b .entry)) w (now (l .entry)))) ⌝ }
@@ -275,7 +276,7 @@ fn words(s: &[u32]) -> usize
     n
 }
 
-// Every place, each with all that it has to do with others.
+// Do all places pass, each with all that it has to do with others?
 fn members(b: &Blocks, w: &Words, at: &[u8; PLACES], running: Place) -> bool
     ensures { λ r. ⌜ Tells r (Members (running .0) (now (b .entry)) (now (w .entry)) (now (at .entry))) (Strangers (running .0) (now (b .entry)) (now (w .entry)) (now (at .entry))) ⌝ }
 {

@@ -30,7 +30,7 @@ pub struct Told {
     pub length: u16,
 }
 
-// What a log comes to: as above, with the count of the whole records and of their bytes.
+// What a log comes to: code, choice and next, how many whole records and bytes were read, and the new image's length.
 pub struct Brought {
     pub code: u8,
     pub choice: u8,
@@ -145,7 +145,7 @@ pub extern "C" fn rumqatiss_board(
     t.code
 }
 
-// Saves the fresh state. The code and the length.
+// Saves the fresh state, and gives the code and the length.
 fn begin(out: &mut [u8]) -> Saved
     ensures { λ r. ⌜ ((r .code, r .length, now (out .exit)) ≡ freshOn (now (out .entry))) × (r .length ≤ longestImage) ⌝ }
 {

@@ -16,9 +16,10 @@ use table::Words;
 // A byte of a buffer before it is lent: neither an image nor a log is made of these.
 const BLANK: u8 = 170;
 
+// The length of a log that is lent.
 const LOG: usize = 16;
 
-// Where in that log a record is to go.
+// Where in such a log a record is to go.
 const START: usize = 3;
 
 // Where the cells begin that name the last place of each line.
@@ -53,12 +54,18 @@ fn queues(s: State) {
     tried(b"a line that is a ring", link(s, 3, 3));
     // 3, the only one in ready, stands behind 1 in the clock line too, as its last.
     let t = link(s, 1, 3);
-    tried(b"a place in two lines", link(t, LAST + table::CLOCK_LINE as usize, 3));
+    tried(
+        b"a place in two lines",
+        link(t, LAST + table::CLOCK_LINE as usize, 3),
+    );
 }
 
 fn desks(s: State) {
     tried(b"another runs than stands so", running(s, Place(3)));
-    tried(b"the running place is no place", running(s, Place(lines::PLACES as u8)));
+    tried(
+        b"the running place is no place",
+        running(s, Place(lines::PLACES as u8)),
+    );
     tried(b"an empty place in the filled set", one_more(s));
     tried(b"the last number is 254", no_number(s));
 }

@@ -13,14 +13,14 @@ pub fn count(x: u32) -> u8
     u32::count_ones(x) as u8
 }
 
-// The lowest place that is empty; 32 where all are filled.
+// The lowest place that is empty. Where all are filled it is the first number that is no place.
 pub fn lowest(x: u32) -> u8
     ensures { λ r. ⌜ ((f : ℕ → Bool) → x ≡ wordOf width f → r ≡ lowestOut width f) ⌝ }
 {
     u32::trailing_zeros(!x) as u8
 }
 
-// With place p filled.
+// The word with place p filled.
 pub fn with(x: u32, p: u8) -> u32
     requires { ⌜ p < width ⌝ }
     ensures { λ r. ⌜ ((f : ℕ → Bool) → x ≡ wordOf width f → r ≡ wordOf width (including p f)) ⌝ }
@@ -28,7 +28,7 @@ pub fn with(x: u32, p: u8) -> u32
     x | (1 << p)
 }
 
-// With place p empty.
+// The word with place p empty.
 pub fn less(x: u32, p: u8) -> u32
     requires { ⌜ p < width ⌝ }
     ensures { λ r. ⌜ ((f : ℕ → Bool) → x ≡ wordOf width f → r ≡ wordOf width (excluding p f)) ⌝ }

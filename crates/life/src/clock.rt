@@ -44,7 +44,7 @@ pub fn slice_end(b: &mut Blocks, w: &mut Words, l: &mut Links, d: Desk) -> Outco
     answer(verbs::DONE, e)
 }
 
-// The first clock waiter, if there is one, is woken.
+// Wakes the first clock waiter. False where nobody waits for the clock.
 fn ring(b: &mut Blocks, w: &mut Words, l: &mut Links) -> bool
     requires { ⌜ Whole (now b) (now w) (now l) ⌝ }
     ensures { λ r. ⌜ First rings clock (now (b .entry)) (now (w .entry)) (now (l .entry)) (now (b .exit)) (now (w .exit)) (now (l .exit)) r ⌝ }
@@ -57,7 +57,7 @@ fn ring(b: &mut Blocks, w: &mut Words, l: &mut Links) -> bool
     true
 }
 
-// All clock waiters are, in order.
+// Wakes all clock waiters, first come first.
 fn ring_all(b: &mut Blocks, w: &mut Words, l: &mut Links)
     requires { ⌜ Whole (now b) (now w) (now l) ⌝ }
     ensures { λ r. ⌜ Steps (now (b .entry)) (now (w .entry)) (now (l .entry)) (now (b .exit)) (now (w .exit)) (now (l .exit)) (drains rings clock) ⌝ }

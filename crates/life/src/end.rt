@@ -24,7 +24,7 @@ use table::Desk;
 use table::Words;
 use verbs::address::find;
 
-// p, which stands in no line and waited for the thread n that ends, has its own word back.
+// p, which stands in no line and waited for the thread n that ends, gets its own word back and joins ready.
 fn give_back(b: &mut Blocks, w: &mut Words, l: &mut Links, n: Number, p: Place)
     requires { ⌜ Whole (now b) (now w) (now l) × (p .0 < places) × Loose lineCount (lineOf places (now l)) (p .0) ⌝ }
     ensures { λ r. ⌜ Steps (now (b .entry)) (now (w .entry)) (now (l .entry)) (now (b .exit)) (now (w .exit)) (now (l .exit)) (backs (n .0) (p .0)) ⌝ }
@@ -33,7 +33,7 @@ fn give_back(b: &mut Blocks, w: &mut Words, l: &mut Links, n: Number, p: Place)
     verbs::wake(b, w, l, p, rules::ENDED, n, word);
 }
 
-// The first in line q, the inbox of the thread n that ends, has; false where nobody stands there.
+// The first in line q, the inbox of the thread n that ends, gets its own word back. False where nobody stands there.
 fn hand_back(b: &mut Blocks, w: &mut Words, l: &mut Links, n: Number, q: u8) -> bool
     requires { ⌜ Whole (now b) (now w) (now l) × (0 < q) × (q < lineCount) ⌝ }
     ensures { λ r. ⌜ First (backs (n .0)) q (now (b .entry)) (now (w .entry)) (now (l .entry)) (now (b .exit)) (now (w .exit)) (now (l .exit)) r ⌝ }
@@ -46,7 +46,7 @@ fn hand_back(b: &mut Blocks, w: &mut Words, l: &mut Links, n: Number, q: u8) -> 
     true
 }
 
-// All in line q have, front to back.
+// All in line q, the inbox of the thread n that ends, get their own word back, front to back.
 fn hand_all_back(b: &mut Blocks, w: &mut Words, l: &mut Links, n: Number, q: u8)
     requires { ⌜ Whole (now b) (now w) (now l) × (0 < q) × (q < lineCount) ⌝ }
     ensures { λ r. ⌜ Steps (now (b .entry)) (now (w .entry)) (now (l .entry)) (now (b .exit)) (now (w .exit)) (now (l .exit)) (drains (backs (n .0)) q) ⌝ }
@@ -58,7 +58,7 @@ fn hand_all_back(b: &mut Blocks, w: &mut Words, l: &mut Links, n: Number, q: u8)
     }
 }
 
-// Whoever stands at p and awaits a reply of the number n has, too.
+// The thread at p gets its own word back if it awaits a reply of the number n, which ends. Nothing changes if it does not.
 fn let_one(b: &mut Blocks, w: &mut Words, l: &mut Links, n: Number, p: Place)
     requires { ⌜ Lies (now b) (now w) (now l) × (p .0 < places) ⌝ }
     ensures { λ r. ⌜ Steps (now (b .entry)) (now (w .entry)) (now (l .entry)) (now (b .exit)) (now (w .exit)) (now (l .exit)) (let-step (n .0) (p .0)) ⌝ }
@@ -69,7 +69,7 @@ fn let_one(b: &mut Blocks, w: &mut Words, l: &mut Links, n: Number, p: Place)
     give_back(b, w, l, n, p);
 }
 
-// All who await a reply of the number n have, by rising place.
+// All who await a reply of the number n, which ends, get their own word back, by rising place.
 fn let_go(b: &mut Blocks, w: &mut Words, l: &mut Links, n: Number)
     requires { ⌜ Lies (now b) (now w) (now l) × (n .0 ≤ lastNumber) ⌝ }
     ensures { λ r. ⌜ Steps (now (b .entry)) (now (w .entry)) (now (l .entry)) (now (b .exit)) (now (w .exit)) (now (l .exit)) (letFrom (n .0) 0 places) ⌝ }
@@ -81,7 +81,7 @@ fn let_go(b: &mut Blocks, w: &mut Words, l: &mut Links, n: Number)
     }
 }
 
-// The line where the thread at p stands, or NONE.
+// The line where the thread at p stands. NONE where it stands in none.
 fn line_of(b: &Blocks, p: Place) -> u8
     requires { ⌜ (p .0 < places) × Served (now b) (p .0) ⌝ }
     ensures { λ r. ⌜ r ≡ lineIn (now (b .entry)) (p .0) ⌝ }

@@ -30,7 +30,7 @@ fn wide(x: u8) -> usize
     x as usize
 }
 
-// Who is first in line q, or NONE.
+// Who is first in line q. NONE where nobody stands in it.
 pub fn first(l: &Links, q: u8) -> u8
     requires { ⌜ Tidy places lineCount (now l) × (q < lineCount) ⌝ }
     ensures { λ r. ⌜ r ≡ front (lineOf places (now (l .entry)) q) ⌝ }
@@ -38,7 +38,7 @@ pub fn first(l: &Links, q: u8) -> u8
     l[PLACES + q as usize]
 }
 
-// Who stands behind p in its line, or NONE.
+// Who stands behind p in its line. NONE where p is the last.
 pub fn after(l: &Links, p: u8) -> u8
     requires { ⌜ Tidy places lineCount (now l) × (p < places) ⌝ }
     ensures { λ r. ⌜ Next places lineCount (now (l .entry)) p r ⌝ }
@@ -62,7 +62,8 @@ pub fn join(l: &mut Links, q: u8, p: u8)
     l[LAST + line] = p;
 }
 
-// As join, of bytes that nobody vouches for: where the array is tidy, and p a place that stands in no line, p goes to the back of line q.
+// For a caller that vouches for nothing, as one that reads an image. Where the array is tidy, and p a place that stands in no line, p goes to the back of
+// line q. Whatever the bytes are, no index is out of range.
 pub fn hang(l: &mut Links, q: u8, p: u8)
     requires { ⌜ q < lineCount ⌝ }
     ensures { λ r. ⌜ (Tidy places lineCount (now (l .entry)) → p < places → Loose lineCount (lineOf places (now (l .entry))) p → Turned places lineCount (now (l .entry)) (now (l .exit)) q (lineOf places (now (l .entry)) q ++ (p ∷ []))) ⌝ }
@@ -94,7 +95,7 @@ fn cut(l: &mut Links, q: u8, at: usize, p: u8)
     l[p as usize] = NONE;
 }
 
-// The first leaves line q, and is returned; NONE, and nothing is changed, where the line is empty.
+// The first leaves line q, and is returned. Where the line is empty nothing changes, and NONE is returned.
 pub fn pop(l: &mut Links, q: u8) -> u8
     requires { ⌜ Tidy places lineCount (now l) × (q < lineCount) ⌝ }
     ensures { λ r. ⌜ Popped places lineCount (now (l .entry)) (now (l .exit)) q r ⌝ }
@@ -107,7 +108,7 @@ pub fn pop(l: &mut Links, q: u8) -> u8
     p
 }
 
-// The cell behind which p stands in line q, or CELLS where p is not in it.
+// The cell behind which p stands in line q. CELLS where p is not in it.
 fn seek(l: &Links, q: u8, p: u8) -> usize
     requires { ⌜ Tidy places lineCount (now l) × (q < lineCount) × (p < places) ⌝ }
     ensures { λ r. ⌜ Sought places cells (now (l .entry)) q p r ⌝ }
@@ -122,7 +123,7 @@ fn seek(l: &Links, q: u8, p: u8) -> usize
     CELLS
 }
 
-// p leaves line q, wherever it stands in it; nothing is changed where it is not in it.
+// p leaves line q, wherever it stands in it. Where it is not in it nothing changes.
 pub fn leave(l: &mut Links, q: u8, p: u8)
     requires { ⌜ Tidy places lineCount (now l) × (q < lineCount) × (p < places) ⌝ }
     ensures { λ r. ⌜ Turned places lineCount (now (l .entry)) (now (l .exit)) q (without p (lineOf places (now (l .entry)) q)) ⌝ }
@@ -133,7 +134,7 @@ pub fn leave(l: &mut Links, q: u8, p: u8)
     }
 }
 
-// All lines are empty.
+// An array in which all lines are empty.
 pub fn fresh() -> Links
     ensures { λ r. ⌜ Clear places lineCount r ⌝ }
 {

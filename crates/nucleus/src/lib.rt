@@ -111,7 +111,7 @@ impl State {
         table::choose(&b, &l, d)
     }
 
-    // Who runs next, or why nobody does. Halt, where the state is not consistent.
+    // Who runs next, or why nobody does. Halt where the state is not consistent.
     pub fn choice(self) -> Choice
         ensures { λ r. ⌜ Looked self (r ≡ chosen (view self)) (r ≡ Halt) ⌝ }
     {
@@ -121,7 +121,7 @@ impl State {
         self.choose()
     }
 
-    // How many threads live. 0, where the state is not consistent.
+    // How many threads live. 0 where the state is not consistent.
     pub fn live(self) -> u8
         ensures { λ r. ⌜ Looked self (r ≡ liveIn (view self)) (r ≡ 0) ⌝ }
     {
@@ -131,7 +131,7 @@ impl State {
         filled::count(self.filled)
     }
 
-    // The lowest empty place, or none; none too where the state is not consistent.
+    // The lowest empty place. None where all are filled, or the state is not consistent.
     pub fn empty_place(self) -> Place
         ensures { λ r. ⌜ Looked self (r .0 ≡ emptyPlace (view self)) (r .0 ≡ none) ⌝ }
     {
@@ -145,7 +145,7 @@ impl State {
         Place(p)
     }
 
-    // What the place p holds; the clean value where it is no place or the state is not consistent.
+    // What the place p holds. The clean value where it is no place or the state is not consistent.
     pub fn thread(self, p: Place) -> Thread
         ensures { λ r. ⌜ Looked self (asThread r ≡ threadIn (view self) (p .0)) (asThread r ≡ vacant) ⌝ }
     {
@@ -197,56 +197,56 @@ impl State {
         self.act(e)
     }
 
-    // 1
+    // Event 1: a thread is created.
     pub fn create(self) -> Reply
         ensures { λ r. ⌜ Answers self Create r ⌝ }
     {
         self.step(Event::Create)
     }
 
-    // 2
+    // Event 2: the running thread sends a word.
     pub fn send(self, to: Number, word: u32) -> Reply
         ensures { λ r. ⌜ Answers self (Send to word) r ⌝ }
     {
         self.step(Event::Send { to: to, word: word })
     }
 
-    // 3
+    // Event 3: the running thread receives, from a number or from any.
     pub fn receive(self, from: Number) -> Reply
         ensures { λ r. ⌜ Answers self (Receive from) r ⌝ }
     {
         self.step(Event::Receive { from: from })
     }
 
-    // 4
+    // Event 4: the running thread replies.
     pub fn reply(self, to: Number, word: u32) -> Reply
         ensures { λ r. ⌜ Answers self (ReplyTo to word) r ⌝ }
     {
         self.step(Event::Reply { to: to, word: word })
     }
 
-    // 5
+    // Event 5: a thread ends.
     pub fn end(self, thread: Number) -> Reply
         ensures { λ r. ⌜ Answers self (End thread) r ⌝ }
     {
         self.step(Event::End { thread: thread })
     }
 
-    // 6
+    // Event 6: the running thread waits for the clock.
     pub fn wait_clock(self) -> Reply
         ensures { λ r. ⌜ Answers self WaitClock r ⌝ }
     {
         self.step(Event::WaitClock)
     }
 
-    // 7
+    // Event 7: the slice ends.
     pub fn slice_end(self) -> Reply
         ensures { λ r. ⌜ Answers self SliceEnd r ⌝ }
     {
         self.step(Event::SliceEnd)
     }
 
-    // 8
+    // Event 8: the clock ticks.
     pub fn tick(self) -> Reply
         ensures { λ r. ⌜ Answers self Tick r ⌝ }
     {

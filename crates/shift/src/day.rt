@@ -13,10 +13,10 @@ const REPLY: u8 = 4;
 
 const END: u8 = 5;
 
-// With the radio they sign on first.
+// So many drivers sign on first, with the radio.
 pub const DRIVERS: usize = 12;
 
-// The events before the image, those included.
+// So many events come before the image, the signing on included.
 pub const BEFORE: usize = 100;
 
 // Loads sent, answered, and gone because their driver signed off while they waited; and events that were refused.

@@ -1,4 +1,5 @@
-// The report. Each number in it was counted on the way.
+// What the program writes: the shift in numbers, what the failures of the power left, and the loads that one cut log brings back. It judges only by what
+// `day` and `cuts` have counted.
 use super::book;
 use super::cuts::Found;
 use super::day;

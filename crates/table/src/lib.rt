@@ -15,7 +15,7 @@ use rules::Choice;
 use rules::Number;
 use rules::Place;
 
-// A row for each byte of a thread ..
+// Each byte of a thread has a row in the one array.
 pub const NUMBER: usize = 0;
 
 pub const STANDING: usize = lines::PLACES;
@@ -28,7 +28,7 @@ pub const WHO: usize = 4 * lines::PLACES;
 
 pub const BYTES: usize = 5 * lines::PLACES;
 
-// .. and for each word.
+// Each word of a thread has a row in the other.
 pub const WORD: usize = 0;
 
 pub const ANSWER: usize = lines::PLACES;

@@ -21,7 +21,7 @@ use table::Desk;
 use table::Words;
 use verbs::address::names;
 
-// Why the caller may not receive from n, or from any; DONE where it may.
+// Why the caller may not receive from n, or from any. DONE where it may.
 fn source(b: &Blocks, d: Desk, n: Number) -> u8
     requires { ⌜ Seated d ⌝ }
     ensures { λ r. ⌜ Sources d (now (b .entry)) n r ⌝ }
@@ -35,7 +35,7 @@ fn source(b: &Blocks, d: Desk, n: Number) -> u8
     verbs::DONE
 }
 
-// The first in line q from whom a receive from n, or from any, takes; or NONE.
+// The first in line q from whom a receive from n, or from any, takes. NONE where there is none.
 fn pick(b: &Blocks, l: &Links, q: u8, n: Number) -> Place
     requires { ⌜ Tidy places lineCount (now l) × (q < lineCount) ⌝ }
     ensures { λ r. ⌜ r .0 ≡ picked (now (b .entry)) (now (l .entry)) q (n .0) ⌝ }

@@ -7,7 +7,7 @@ use rules::Place;
 use table::Blocks;
 use table::Desk;
 
-// The place of the live thread with the number n, or NONE.
+// The place of the live thread with the number n. NONE where there is none.
 pub fn find(b: &Blocks, n: Number) -> Place
     ensures { λ r. ⌜ r .0 ≡ found (now (b .entry)) (n .0) ⌝ }
 {
@@ -23,7 +23,7 @@ pub fn find(b: &Blocks, n: Number) -> Place
     Place(lines::NONE)
 }
 
-// Why the caller may not name n: nobody runs, n is no number, or n is the caller's own; DONE where it may.
+// Why the caller may not name n: nobody runs, n is no number, or n is the caller's own. DONE where it may.
 pub fn names(b: &Blocks, d: Desk, n: Number) -> u8
     requires { ⌜ Seated d ⌝ }
     ensures { λ r. ⌜ Names d (now (b .entry)) (n .0) r ⌝ }
@@ -42,12 +42,13 @@ pub fn names(b: &Blocks, d: Desk, n: Number) -> u8
     super::DONE
 }
 
-// The place of the live thread that the caller names, where the code is DONE; else why there is none.
+// What a caller's naming a thread comes to: where the code is DONE, the place of that live thread, and otherwise the code says why there is none.
 pub struct Address {
     pub code: u8,
     pub at: Place,
 }
 
+// The live thread with the number n, for a caller that names it.
 pub fn whom(b: &Blocks, d: Desk, n: Number) -> Address
     requires { ⌜ Seated d ⌝ }
     ensures { λ r. ⌜ Addresses d (now (b .entry)) (n .0) r ⌝ }
