@@ -15,7 +15,7 @@ use Rattle.rules.specs.Values.{nobody}
 use Rattle.rules.specs.Model.{places, lastNumber, Empty, Ready, Sending, Awaiting, Waiting, Thread, vacant, Model, ready, clock, inbox, lineCount, thread, line}
 use Rattle.rules.specs.Rules.{hears, isNil}
 use Rattle.rules.specs.Consistent.{isNumber, belongs, Consistent}
-use Rattle.order.specs.Sound.{Fit, Sound, whole, out, inside}
+use Rattle.order.specs.Sound.{Fit, numbered, Sound, whole, out, inside}
 use Rattle.order.specs.Belongs.{in-none, in-ready, in-clock}
 use Rattle.audit.specs.Tests.{fits, astray, home, runsAlone, unheard, placeTest, deskTest, Whereabouts, Index}
 use Rattle.audit.specs.Alone.{fit-of, named, home-none, no-line, found}
@@ -25,10 +25,6 @@ module _ (m : Model) (sized : length (m .threads) ≡ places) (lined : length (m
     (good : (p : ℕ) → p < places → placeTest m at who p ≡ true) (desk : deskTest m ≡ true) where
   fit : (p : ℕ) → Fit (thread m p)
   fit p = fit-of (thread m p) (elim (decLt p places) [ yes h ↦ and-left (fits (thread m p)) _ (good p h) | no h ↦ rw (out m sized p (omega arith)) ]) (bounds p)
-
-  -- whoever has a thread's number lives: an empty place has the number of nobody
-  numbered : (r : ℕ) → thread m r .number ≤ lastNumber → thread m r .standing ≢ Empty
-  numbered r h z = let c = ap (λ (t : Thread). t .number) (fit r .clean z) in omega arith
 
   good₁ : (p : ℕ) → p < places → runsAlone (m .running) p (thread m p) && (eqb (getD at p 0) (home who (thread m p)) && unheard (thread m (getD who (thread m p .partner) 0)) (thread m p)) ≡ true
   good₁ p h = and-right (fits (thread m p)) _ (good p h)
@@ -83,7 +79,7 @@ module _ (m : Model) (sized : length (m .threads) ≡ places) (lined : length (m
       (elim (ℕ-discrete (getD who (thread m p .partner) 0) r) [
         | yes e ↦ eq-eqb (inbox (getD who (thread m p .partner) 0)) (inbox r) (ap inbox e) ∙ sym (eq-eqb (thread m p .partner) (thread m r .number) (sym (rw e at (v .1))))
         | no k ↦ ne-eqb (inbox (getD who (thread m p .partner) 0)) (inbox r) (λ y. k (omega arith)) ∙ sym (ne-eqb (thread m p .partner) (thread m r .number) (λ y.
-            k (found m sized X r (thread m p .partner) (numbered r (omega arith)) (sym y))))
+            k (found m sized X r (thread m p .partner) (numbered (fit r) (omega arith)) (sym y))))
       ])
 
   -- each line holds those who belong there
@@ -135,13 +131,13 @@ module _ (m : Model) (sized : length (m .threads) ≡ places) (lined : length (m
   deaf : (r p : ℕ) → thread m p .standing ≡ Sending → thread m p .partner ≡ thread m r .number → hears (thread m r) (thread m p .number) ≡ false
   deaf r p z n =
       let low : thread m p .partner ≤ lastNumber = named (thread m p) (fit p .table (λ y. omega arith)) (omega arith) (omega arith) in
-      let f = found m sized X r (thread m p .partner) (numbered r (omega arith)) (sym n) in
+      let f = found m sized X r (thread m p .partner) (numbered (fit r) (omega arith)) (sym n) in
       not-true _ (rw (f, z) at (silent p (inside m sized p (λ y. omega arith))))
 
   differ : (p r : ℕ) → thread m p .standing ≢ Empty → thread m p .number ≡ thread m r .number → p ≡ r
   differ p r k e =
       let low = fit p .number k in
-      sym (found m sized X p (thread m p .number) k refl) ∙ found m sized X r (thread m p .number) (numbered r (omega arith)) (sym e)
+      sym (found m sized X p (thread m p .number) k refl) ∙ found m sized X r (thread m p .number) (numbered (fit r) (omega arith)) (sym e)
 
   steady : Sound m
   steady = record {

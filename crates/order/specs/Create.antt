@@ -1,15 +1,13 @@
 -- Event 1, create: the lowest empty place takes a thread with a number that nobody has.
 use Prim.Native.Nat.{ℕ, suc, _≤_, _<_}
-use mathlib.Core.Path.{_≡_, refl, sym, ap, _∙_}
+use mathlib.Core.Path.{_≡_, refl, sym, _∙_}
 use mathlib.Core.Logic.{_≢_}
-use native.Mathlib.Decide.{ℕ-discrete}
 use native.Mathlib.Omega.{arith}
 use borrow.Author.Tests.{eqb-true, not-false}
 use Rattle.lists.specs.Lists.{none}
-use Rattle.rules.specs.Values.{nobody}
-use Rattle.rules.specs.Model.{places, lastNumber, Empty, Thread, Model, ready, thread}
+use Rattle.rules.specs.Model.{places, lastNumber, Empty, Model, ready, thread}
 use Rattle.rules.specs.Rules.{placeOf, inUse, nextNumber, newcomer, emptyPlace, createAt, create}
-use Rattle.order.specs.Sound.{Sound}
+use Rattle.order.specs.Sound.{Sound, numbered}
 use Rattle.order.specs.Belongs.{in-none, in-ready}
 use Rattle.order.specs.Places.{unused, in-use, empty, empty-place}
 use Rattle.order.specs.Lines.{joins}
@@ -33,21 +31,14 @@ filled m S p n h zero-p low free = changed m p (newcomer n) n (m .running) _ S (
   turn = aside m S p (newcomer n) (omega arith) h (omega arith);
   shift = joins m S p (newcomer n) ready (omega arith) (in-none m (thread m p) (omega arith) (omega arith) (omega arith)) (in-ready m (newcomer n) refl);
   standing = omega arith;
-  own = λ s k _ e. elim (ℕ-discrete (thread m s .standing) Empty) [
-    | yes z ↦ let v = clean s z in omega arith
-    | no z ↦ unused m S n free s z (sym e)
-  ];
+  own = λ s k _ e. unused m S n free s (numbered (S .fits s) (omega arith)) (sym e);
   others = λ s k z. unused m S n free s z;
   alien = λ s k i j.
       let v = S .served s i j in
       let w : thread m (v .0) .number ≤ lastNumber = S .fits (v .0) .number (v .1) in
       let e = v .2 in
-      let c = clean p zero-p in
-      ((λ z. omega arith), λ z. unused m S n free (v .0) (v .1) (e ∙ z));
+      ((λ z. numbered (S .fits p) (omega arith) zero-p), λ z. unused m S n free (v .0) (v .1) (e ∙ z));
 })
-  where
-    clean : (s : ℕ) → thread m s .standing ≡ Empty → thread m s .number ≡ nobody
-    clean s z = ap (λ (t : Thread). t .number) (S .fits s .clean z)
 
 -- the number that create gives is a number, and is not in use
 pub given-free : (m : Model) → Sound m → (nextNumber m ≤ lastNumber) × (placeOf m (nextNumber m) ≡ none)

@@ -5,7 +5,7 @@ use mathlib.Core.Path.{_≡_, refl, ap, _∙_}
 use mathlib.Core.Logic.{_≢_}
 use mathlib.Core.List.{List, [], _∷_}
 use mathlib.Core.Bool.{true, false}
-use native.Mathlib.Decide.{ℕ-discrete, decLt}
+use native.Mathlib.Decide.{decLt}
 use native.Mathlib.Omega.{arith}
 use lib.ListN.{length, List·getD-eq-default}
 use lib.Dec.{eqb}
@@ -30,6 +30,10 @@ pub record Fit (t : Thread) : Type 0 where
   pub number : t .standing ≢ Empty → t .number ≤ lastNumber
   pub apart : t .standing ≢ Empty → t .partner ≢ t .number
   pub words : Short (t .word) × Short (t .answer)
+
+-- an empty place has the number of nobody, so that whoever has a thread's number lives
+pub numbered : {t : Thread} → Fit t → t .number ≤ lastNumber → t .standing ≢ Empty
+numbered F h z = let c = ap (λ (t : Thread). t .number) (F .clean z) in omega arith
 
 -- a live thread has the number n
 abbrev pub Live : Model → ℕ → Type 0
@@ -86,14 +90,8 @@ module _ (m : Model) (S : Sound m) (r p : ℕ) (h : 1 ≤ count p (line m (inbox
 -- ---- the tie to the readable text
 
 module _ (m : Model) (C : Consistent m) where
-  number-vacant : (p : ℕ) → thread m p .standing ≡ Empty → thread m p .number ≡ nobody
-  number-vacant p e = ap (λ (t : Thread). t .number) (C .clean p e)
-
-  differing : (p r : ℕ) → thread m p .standing ≢ Empty → thread m p .number ≡ thread m r .number → p ≡ r
-  differing p r h e = elim (ℕ-discrete (thread m r .standing) Empty) [
-    | yes z ↦ let a = C .numbers p h in let b = number-vacant r z in absurd (omega arith)
-    | no k ↦ C .differ p r h k e
-  ]
+  fit : (p : ℕ) → Fit (thread m p)
+  fit p = record { clean = C .clean p; table = C .table p; answer = C .answers p; number = C .numbers p; apart = C .apart p; words = C .words p }
 
   -- p stands in r's inbox: r cannot be waiting to hear it
   unheard-by : (r p : ℕ) → thread m p .standing ≡ Sending → thread m p .partner ≡ thread m r .number → hears (thread m r) (thread m p .number) ≡ true → ⊥
@@ -110,8 +108,8 @@ module _ (m : Model) (C : Consistent m) where
     threads = C .threads;
     lines = C .lines;
     last = C .last;
-    fits = λ p. record { clean = C .clean p; table = C .table p; answer = C .answers p; number = C .numbers p; apart = C .apart p; words = C .words p };
-    differ = differing;
+    fits = fit;
+    differ = λ p r h e. let a = C .numbers p h in C .differ p r h (numbered (fit r) (omega arith)) e;
     alone = C .one;
     busy = C .busy;
     served = C .served;
