@@ -17,10 +17,10 @@ use Rattle.rules.specs.Rules.{hears, isNil}
 use Rattle.rules.specs.Consistent.{isNumber, belongs, Consistent}
 use Rattle.order.specs.Sound.{Fit, numbered, Sound, whole, out, inside}
 use Rattle.order.specs.Belongs.{in-none, in-ready, in-clock}
-use Rattle.audit.specs.Tests.{fits, astray, home, runsAlone, unheard, placeTest, deskTest, Whereabouts, Index}
+use Rattle.audit.specs.Tests.{fits, astray, home, runsAlone, unheard, placeTest, deskTest, Homes, Index}
 use Rattle.audit.specs.Alone.{fit-of, named, home-none, no-line, found}
 
-module _ (m : Model) (sized : length (m .threads) ≡ places) (lined : length (m .lines) ≡ lineCount) (at who : List ℕ) (W : Whereabouts m at) (X : Index m who)
+module _ (m : Model) (sized : length (m .threads) ≡ places) (lined : length (m .lines) ≡ lineCount) (at who : List ℕ) (W : Homes m at) (X : Index m who)
     (bounds : (p : ℕ) → (thread m p .word < 2 ^ 32) × (thread m p .answer < 2 ^ 32))
     (good : (p : ℕ) → p < places → placeTest m at who p ≡ true) (desk : deskTest m ≡ true) where
   fit : (p : ℕ) → Fit (thread m p)

@@ -34,7 +34,7 @@ abbrev pub bytes : ℕ
 bytes = 256
 
 -- the first i places are in the index: who[n] is the place of the number n among them, or none
-pub record Entered (b who : List ℕ) (i : ℕ) : Type 0 where
+pub record Indexed (b who : List ℕ) (i : ℕ) : Type 0 where
   pub room : length who ≡ bytes
   pub to : (p : ℕ) → p < i → standsAt b p ≡ true → getD who (getD b (cell 0 p) 0) 0 ≡ p
   pub back : (n : ℕ) → n < bytes → getD who n 0 ≢ none → (getD who n 0 < i) × (standsAt b (getD who n 0) ≡ true) × (getD b (cell 0 (getD who n 0)) 0 ≡ n)
@@ -48,16 +48,16 @@ pub record Twice (b : List ℕ) : Type 0 where
   pub stand : (standsAt b one ≡ true) × (standsAt b other ≡ true)
   pub same : getD b (cell 0 one) 0 ≡ getD b (cell 0 other) 0
 
-pub enter-none : {b who : List ℕ} → who ≡ replicate bytes none → Entered b who 0
+pub enter-none : {b who : List ℕ} → who ≡ replicate bytes none → Indexed b who 0
 enter-none {b} {who} e = record {
   room = ap length e ∙ length-replicate bytes none;
   to = λ p h. absurd (omega arith);
   back = λ n h k. absurd (k (rw e (getD-replicate bytes n none 0 h)));
 }
 
-module _ {b who : List ℕ} {i : ℕ} (k : Entered b who i) (h : i < places) where
+module _ {b who : List ℕ} {i : ℕ} (k : Indexed b who i) (h : i < places) where
   -- nobody stands at i
-  pub enter-empty : standsAt b i ≡ false → Entered b who (i + 1)
+  pub enter-empty : standsAt b i ≡ false → Indexed b who (i + 1)
   enter-empty z = rw add-one (record {
     room = k .room;
     to = λ p l s. elim (ℕ-discrete p i) [
@@ -74,7 +74,7 @@ module _ {b who : List ℕ} {i : ℕ} (k : Entered b who i) (h : i < places) whe
       record { one = i; other = getD who (getD b (cell 0 i) 0) 0; differ = λ e. omega (arith, v .0); places = (h, omega (arith, v .0)); stand = (s, v .1); same = sym (v .2) }
 
   -- or that is not
-  pub enter-new : standsAt b i ≡ true → getD b (cell 0 i) 0 < bytes → getD who (getD b (cell 0 i) 0) 0 ≡ none → Entered b (set who (getD b (cell 0 i) 0) i) (i + 1)
+  pub enter-new : standsAt b i ≡ true → getD b (cell 0 i) 0 < bytes → getD who (getD b (cell 0 i) 0) 0 ≡ none → Indexed b (set who (getD b (cell 0 i) 0) i) (i + 1)
   enter-new s l t = rw add-one (record {
     room = length-set who (getD b (cell 0 i) 0) i ∙ k .room;
     to = to;
@@ -99,7 +99,7 @@ module _ {b who : List ℕ} {i : ℕ} (k : Entered b who i) (h : i < places) whe
       ]
 
 -- the whole index, for the model
-pub indexed : {b who : List ℕ} (y x : ℕ) (w l : List ℕ) → Entered b who places → Index (modelOf y x b w l) who
+pub indexed : {b who : List ℕ} (y x : ℕ) (w l : List ℕ) → Indexed b who places → Index (modelOf y x b w l) who
 indexed {b} {who} y x w l k = record {
   to = λ p h s. rw (thread-at y x b w l p h) (k .to p h (rw (ne-eqb _ 0 (rw (thread-at y x b w l p h) at s))));
   back = λ n h s.
@@ -115,8 +115,8 @@ twice-not {b} y x w l t C =
     (rw (thread-at y x b w l (t .one) (t .places .0), thread-at y x b w l (t .other) (t .places .1)) (t .same)))
 
 -- every place passes the test, or one does not
-abbrev pub Every : Bool → (ℕ → Bool) → Type 0
-Every r f = Tells r ((p : ℕ) → p < places → f p ≡ true) ((p : ℕ) × (p < places) × (f p ≡ false))
+abbrev pub AllPass : Bool → (ℕ → Bool) → Type 0
+AllPass r f = Tells r ((p : ℕ) → p < places → f p ≡ true) ((p : ℕ) × (p < places) × (f p ≡ false))
 
 -- ---- the desk
 

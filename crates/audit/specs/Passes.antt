@@ -17,10 +17,10 @@ use Rattle.rules.specs.Rules.{isNil}
 use Rattle.rules.specs.Consistent.{isNumber, belongs, Consistent}
 use Rattle.order.specs.Sound.{sound, inside}
 use Rattle.order.specs.Belongs.{in-none}
-use Rattle.audit.specs.Tests.{fits, home, runsAlone, unheard, placeTest, deskTest, Whereabouts, Index}
+use Rattle.audit.specs.Tests.{fits, home, runsAlone, unheard, placeTest, deskTest, Homes, Index}
 use Rattle.audit.specs.Alone.{fit-fits, home-none, found}
 
-module _ (m : Model) (at who : List ℕ) (W : Whereabouts m at) (X : Index m who) (C : Consistent m) where
+module _ (m : Model) (at who : List ℕ) (W : Homes m at) (X : Index m who) (C : Consistent m) where
   -- where p stands is where its standing puts it
   standing-at : (p q : ℕ) → p < places → q < lineCount → eqb (getD at p 0) q ≡ belongs m (thread m p) q
   standing-at p q h l = bit-same (eqb (getD at p 0) q) (belongs m (thread m p) q) (sym (W .within p q h l) ∙ C .stood p q)

@@ -57,7 +57,7 @@ abbrev pub deskTest : Model → Bool
 deskTest m = isNumber (m .last) && cond (idle m) (isNil (line m ready)) (eqb (thread m (m .running) .standing) Running)
 
 -- at[p] is the line in which p stands, or none
-pub record Whereabouts (m : Model) (at : List ℕ) : Type 0 where
+pub record Homes (m : Model) (at : List ℕ) : Type 0 where
   pub within : (p q : ℕ) → p < places → q < lineCount → count p (line m q) ≡ bit (eqb (getD at p 0) q)
   pub beyond : (p q : ℕ) → places ≤ p → count p (line m q) ≡ 0
   pub sure : (p : ℕ) → p < places → getD at p 0 ≢ none → getD at p 0 < lineCount

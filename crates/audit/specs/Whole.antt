@@ -22,26 +22,26 @@ use Rattle.rules.specs.Consistent.{Consistent}
 use Rattle.table.specs.Cells.{cell, byteRows, wordRows, threadOf, modelOf, shown, Filled, Stands}
 use Rattle.table.specs.Rows.{thread-at, thread-past, line-at, line-past}
 use Rattle.table.specs.declared.Desk.{Desk}
-use Rattle.audit.specs.Tests.{placeTest, deskTest, Whereabouts}
+use Rattle.audit.specs.Tests.{placeTest, deskTest, Homes}
 use Rattle.audit.specs.Judge.{judged}
 use Rattle.audit.specs.Passes.{passes, seated}
-use Rattle.audit.specs.Loops.{Entered, Twice, Every, indexed, twice-not}
+use Rattle.audit.specs.Loops.{Indexed, Twice, AllPass, indexed, twice-not}
 
 -- every place passes, with an index of the numbers
 pub record Members (x : ℕ) (b w at : List ℕ) : Type 0 where
   pub who : List ℕ
-  pub index : Entered b who places
+  pub index : Indexed b who places
   pub tests : (p : ℕ) → p < places → placeTest (modelOf 0 x b w []) at who p ≡ true
 
 -- no nucleus of these places is consistent
 pub record Strangers (x : ℕ) (b w at : List ℕ) : Type 0 where
-  pub never : (y : ℕ) (l : List ℕ) → Whereabouts (modelOf y x b w l) at → Consistent (modelOf y x b w l) → ⊥
+  pub never : (y : ℕ) (l : List ℕ) → Homes (modelOf y x b w l) at → Consistent (modelOf y x b w l) → ⊥
 
 module _ {x : ℕ} {b w at : List ℕ} where
   pub strangers-twice : Twice b → Strangers x b w at
   strangers-twice t = record { never = λ y l W C. twice-not y x w l t C }
 
-  pub told : {who : List ℕ} → Entered b who places → {r : Bool} → Every r (placeTest (modelOf 0 x b w []) at who) → Tells r (Members x b w at) (Strangers x b w at)
+  pub told : {who : List ℕ} → Indexed b who places → {r : Bool} → AllPass r (placeTest (modelOf 0 x b w []) at who) → Tells r (Members x b w at) (Strangers x b w at)
   told {who} k t = record {
     yes = λ e. record { who = who; index = k; tests = t .yes e };
     no = λ e. record {
@@ -52,7 +52,7 @@ module _ {x : ℕ} {b w at : List ℕ} where
   }
 
 -- what the survey of the lines found, in the model
-pub found : {l at : List ℕ} (y x : ℕ) (b w : List ℕ) → Lines.Whereabouts places lineCount l at → Whereabouts (modelOf y x b w l) at
+pub found : {l at : List ℕ} (y x : ℕ) (b w : List ℕ) → Lines.Whereabouts places lineCount l at → Homes (modelOf y x b w l) at
 found {l} {at} y x b w k = record {
   within = λ p q h i. rw (line-at y x b w l q i) (distinct-count p (lineOf places l q) (once places lineCount (omega arith) l (k .tidy) q i) ∙ ap bit (k .here p q h i));
   beyond = λ p q h. elim (decLt q lineCount) [

@@ -10,7 +10,7 @@ ghost use Rattle.rules.specs.Model.{places, lineCount, thread};
 ghost use Rattle.rules.specs.Consistent.{asTable, isAnswer};
 ghost use Rattle.table.specs.Cells.{modelOf, shown, Filled, Stands, asThread};
 ghost use Rattle.audit.specs.Tests.{isClean, fits as fitting, home as homeOf, runsAlone, unheard as quietTo, placeTest, deskTest};
-ghost use Rattle.audit.specs.Loops.{Entered, Twice, Every};
+ghost use Rattle.audit.specs.Loops.{Indexed, Twice, AllPass};
 ghost use Rattle.audit.specs.Whole.{Members, Strangers};
 use lines::Links;
 use lines::NONE;
@@ -179,8 +179,8 @@ fn place(
 
 // The thread at p, if one stands there, enters the index. False where its number is taken.
 fn enter(b: &Blocks, who: &mut [u8; ENTRIES], p: Place) -> bool
-    requires { ⌜ (p .0 < places) × Entered (now b) (now who) (p .0) ⌝ }
-    ensures { λ r. ⌜ Tells r (Entered (now (b .entry)) (now (who .exit)) (p .0 + 1)) (Twice (now (b .entry))) ⌝ }
+    requires { ⌜ (p .0 < places) × Indexed (now b) (now who) (p .0) ⌝ }
+    ensures { λ r. ⌜ Tells r (Indexed (now (b .entry)) (now (who .exit)) (p .0 + 1)) (Twice (now (b .entry))) ⌝ }
 {
     let at = p.0 as usize;
     if b[table::STANDING + at] == EMPTY {
@@ -194,10 +194,10 @@ fn enter(b: &Blocks, who: &mut [u8; ENTRIES], p: Place) -> bool
     true
 }
 
-// Every thread enters the index.
+// AllPass thread enters the index.
 fn index(b: &Blocks, who: &mut [u8; ENTRIES]) -> bool
-    requires { ⌜ Entered (now b) (now who) 0 ⌝ }
-    ensures { λ r. ⌜ Tells r (Entered (now (b .entry)) (now (who .exit)) places) (Twice (now (b .entry))) ⌝ }
+    requires { ⌜ Indexed (now b) (now who) 0 ⌝ }
+    ensures { λ r. ⌜ Tells r (Indexed (now (b .entry)) (now (who .exit)) places) (Twice (now (b .entry))) ⌝ }
 {
     let mut p: u8 = 0;
     while p < LIMIT {
@@ -213,7 +213,7 @@ fn index(b: &Blocks, who: &mut [u8; ENTRIES]) -> bool
 
 // Does every place pass?
 fn every(b: &Blocks, w: &Words, at: &[u8; PLACES], who: &[u8; ENTRIES], running: Place) -> bool
-    ensures { λ r. ⌜ Every r (placeTest (modelOf 0 (running .0) (now (b .entry)) (now (w .entry)) []) (now (at .entry)) (now (who .entry))) ⌝ }
+    ensures { λ r. ⌜ AllPass r (placeTest (modelOf 0 (running .0) (now (b .entry)) (now (w .entry)) []) (now (at .entry)) (now (who .entry))) ⌝ }
 {
     let mut p: u8 = 0;
     while p < LIMIT {

@@ -30,10 +30,10 @@ use Rattle.journal.specs.Format.{readAt}
 use Rattle.journal.specs.declared.Read.{Read}
 use Rattle.journal.specs.declared.Read.the-variants.{Record}
 use Rattle.logbook.specs.Log.{limit, recordsIn}
-use Rattle.logbook.specs.Promise.{Came, Replays as Plays, inconsistent as torn, too-long, came}
+use Rattle.logbook.specs.Promise.{Came, Replays, inconsistent as torn, too-long, came}
 use Rattle.logbook.specs.declared.Replayed.{Replayed}
 use Rattle.logbook.specs.Reading.{Stops, at-end, cut-short, unknown, past-end}
-use Rattle.board.specs.Promise.{placed, declined, acted, badCode, taken, stepOn, Boards, unloaded, stepped, unplayed, kept, replayOn, Replays, unread, played, freshOn}
+use Rattle.board.specs.Promise.{placed, declined, acted, badCode, taken, stepOn, Boards, unloaded, stepped, unplayed, kept, replayOn, Brings, unread, played, freshOn}
 use Rattle.board.specs.declared.Told.{Told}
 use Rattle.board.specs.declared.Brought.{Brought}
 
@@ -127,11 +127,11 @@ module _ (s : State) (log out : List ℕ) where
   pub play-long : {t : Brought} {x : Choice} → limit < length log → x ≡ choice (view s) → t ≡ unplayed 11 x → (t, out) ≡ replayOn (view s) log out
   play-long h g f = rw (lt-ltb limit (length log) h, f, g) refl
 
-  module _ {r : Replayed} (k : Consists s) (h : length log ≤ limit) (R : Plays s log r) where
+  module _ {r : Replayed} (k : Consists s) (h : length log ≤ limit) (R : Replays s log r) where
     plays-come : Came (view s) (recordsIn log 0) r
     plays-come = come R
       where
-        come : Plays s log r → Came (view s) (recordsIn log 0) r
+        come : Replays s log r → Came (view s) (recordsIn log 0) r
         come (torn n a) = absurd (n k)
         come (too-long l g a) = absurd (omega arith)
         come (came l g a) = a
@@ -155,10 +155,10 @@ module _ (s : State) (log out : List ℕ) where
           rw (le-ltb limit (length log) h, le-ltb (length out) (length (encode (after (recordsIn log 0 .events) (view s)))) (p .room), f, g, e, z .code, z .choice, z .records, z .bytes, p .size, p .bytes) refl
 
 module _ {image : List ℕ} {l : Loaded} (L : Loads image l) where
-  pub bring-refused : {log out : List ℕ} {t : Brought} → l .code ≢ 0 → t ≡ unplayed (l .code) Halt → Replays image log out (t, out)
+  pub bring-refused : {log out : List ℕ} {t : Brought} → l .code ≢ 0 → t ≡ unplayed (l .code) Halt → Brings image log out (t, out)
   bring-refused {out = out} k h = unread (l .code) (refuses-of L k) (ap (λ (z : Brought). (z, out)) h)
 
-  pub bring-played : {log out : List ℕ} {t : Brought × List ℕ} → l .code ≡ 0 → t ≡ replayOn (view (l .state)) log out → Replays image log out t
+  pub bring-played : {log out : List ℕ} {t : Brought × List ℕ} → l .code ≡ 0 → t ≡ replayOn (view (l .state)) log out → Brings image log out t
   bring-played z h = let A = accepted-of L z in played (view (l .state)) (A .consists .consistent) (A .image) h
 
 -- ---- a part

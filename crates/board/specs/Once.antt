@@ -16,7 +16,7 @@ use Rattle.journal.specs.declared.Read.the-variants.{Record, AtEnd, CutShort, U
 use Rattle.saving.specs.Format.{encode}
 use Rattle.loading.specs.Accepts.{refuses-not, refuses-one}
 use Rattle.loading.specs.Injective.{encode-injective}
-use Rattle.board.specs.Promise.{declined, acted, taken, stepOn, Boards, unloaded, stepped, unplayed, replayOn, Replays, unread, played}
+use Rattle.board.specs.Promise.{declined, acted, taken, stepOn, Boards, unloaded, stepped, unplayed, replayOn, Brings, unread, played}
 use Rattle.board.specs.declared.Told.{Told}
 use Rattle.board.specs.declared.Brought.{Brought}
 
@@ -26,11 +26,11 @@ board-one (unloaded c R h) (stepped n D f g) = absurd (refuses-not R (n, D, f))
 board-one (stepped m C e h) (unloaded d Q g) = absurd (refuses-not Q (m, C, e))
 board-one {rec = rec} {out = out} (stepped m C e h) (stepped n D f g) = h ∙ ap (λ (m : Model). stepOn m rec out) (encode-injective m n C D (e ∙ sym f)) ∙ sym g
 
-pub replay-one : {image log out : List ℕ} {t u : Brought × List ℕ} → Replays image log out t → Replays image log out u → t ≡ u
-replay-one {out = out} (unread c R h) (unread d Q g) = h ∙ ap (λ (c : ℕ). (unplayed c Halt, out)) (refuses-one R Q) ∙ sym g
-replay-one (unread c R h) (played n D f g) = absurd (refuses-not R (n, D, f))
-replay-one (played m C e h) (unread d Q g) = absurd (refuses-not Q (m, C, e))
-replay-one {log = log} {out = out} (played m C e h) (played n D f g) = h ∙ ap (λ (m : Model). replayOn m log out) (encode-injective m n C D (e ∙ sym f)) ∙ sym g
+pub brings-one : {image log out : List ℕ} {t u : Brought × List ℕ} → Brings image log out t → Brings image log out u → t ≡ u
+brings-one {out = out} (unread c R h) (unread d Q g) = h ∙ ap (λ (c : ℕ). (unplayed c Halt, out)) (refuses-one R Q) ∙ sym g
+brings-one (unread c R h) (played n D f g) = absurd (refuses-not R (n, D, f))
+brings-one (played m C e h) (unread d Q g) = absurd (refuses-not Q (m, C, e))
+brings-one {log = log} {out = out} (played m C e h) (played n D f g) = h ∙ ap (λ (m : Model). replayOn m log out) (encode-injective m n C D (e ∙ sym f)) ∙ sym g
 
 -- ---- a refused call changes nothing, however long the buffer
 acted-still : (m : Model) (o : Outcome) (out : List ℕ) → acted m o out .0 .code ≢ 0 → acted m o out .1 ≡ out

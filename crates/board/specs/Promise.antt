@@ -87,9 +87,9 @@ abbrev pub replayOn : Model → List ℕ → List ℕ → Brought × List ℕ
 replayOn m log out = cond (ltb limit (length log)) (unplayed 11 (choice m), out) (kept m (recordsIn log 0) out)
 
 -- Order: load's refusals, 11, 7; else 0, 12 or 13 as replay gives them.
-pub data Replays (image log out : List ℕ) (t : Brought × List ℕ) : Type 0 where
-  unread : (c : ℕ) → Refuses image c → t ≡ (unplayed c Halt, out) → Replays image log out t
-  played : (m : Model) → Consistent m → encode m ≡ image → t ≡ replayOn m log out → Replays image log out t
+pub data Brings (image log out : List ℕ) (t : Brought × List ℕ) : Type 0 where
+  unread : (c : ℕ) → Refuses image c → t ≡ (unplayed c Halt, out) → Brings image log out t
+  played : (m : Model) → Consistent m → encode m ≡ image → t ≡ replayOn m log out → Brings image log out t
 
 -- ---- the fresh image
 

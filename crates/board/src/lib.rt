@@ -6,7 +6,7 @@ ghost use Rattle.rules.specs.Rules.{outcome};
 ghost use Rattle.nucleus.specs.View.{view, Consists};
 ghost use Rattle.saving.specs.Longest.{longestImage};
 ghost use Rattle.image.specs.Locates.{Locates};
-ghost use Rattle.board.specs.Promise.{declined, acted as actedOn, badCode, stepOn, Boards, unplayed, replayOn, Replays, freshOn};
+ghost use Rattle.board.specs.Promise.{declined, acted as actedOn, badCode, stepOn, Boards, unplayed, replayOn, Brings, freshOn};
 use image::Saved;
 use journal::Read;
 use nucleus::State;
@@ -202,7 +202,7 @@ fn play(s: State, log: &[u8], out: &mut [u8]) -> Brought
 }
 
 fn bring(image: &[u8], log: &[u8], out: &mut [u8]) -> Brought
-    ensures { λ r. ⌜ Replays (now (image .entry)) (now (log .entry)) (now (out .entry)) (r, now (out .exit)) ⌝ }
+    ensures { λ r. ⌜ Brings (now (image .entry)) (now (log .entry)) (now (out .entry)) (r, now (out .exit)) ⌝ }
 {
     let from = image::load(image);
     if from.code != 0 {
@@ -224,7 +224,7 @@ pub extern "C" fn rumqatiss_replay(
     bytes: &mut u32,
     size: &mut u16,
 ) -> u8
-    ensures { λ r. ⌜ Replays (now (image .entry)) (now (log .entry)) (now (out .entry))
+    ensures { λ r. ⌜ Brings (now (image .entry)) (now (log .entry)) (now (out .entry))
         (record { code = r; choice = now (choice .exit); next = now (next .exit); records = now (records .exit); bytes = now (bytes .exit); length = now (size .exit) }, now (out .exit)) ⌝ }
 {
     let t = bring(image, log, out);

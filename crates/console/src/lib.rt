@@ -32,7 +32,7 @@ pub fn hex(b: &[u8]) {
 }
 
 // The first n bytes, as far as there are.
-pub fn hex_front(b: &[u8], n: usize) {
+fn hex_front(b: &[u8], n: usize) {
     if n > b.len() {
         hex(b);
         return;

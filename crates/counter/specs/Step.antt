@@ -6,15 +6,15 @@ use Rattle.rules.specs.declared.Number.{Number}
 use Rattle.counter.specs.declared.Counter.{Counter}
 
 -- The counter steps to its successor, and from 253 or above to 0.
-abbrev pub stepped : Counter → Counter
-stepped c = record { last = record { 0 = successor (c .last .0) } }
+abbrev pub advanced : Counter → Counter
+advanced c = record { last = record { 0 = successor (c .last .0) } }
 
 -- what `next` ensures of the counter, at entry and at exit, and of the number given
-abbrev pub Steps : Counter → Counter → Number → Type 0
-Steps c d n = (d ≡ stepped c) × (n ≡ stepped c .last)
+abbrev pub Advances : Counter → Counter → Number → Type 0
+Advances c d n = (d ≡ advanced c) × (n ≡ advanced c .last)
 
 -- one outcome: the counter lent and the number given are settled
-pub next-one : (c : Counter) {d d′ : Counter} {n n′ : Number} → Steps c d n → Steps c d′ n′ → (d ≡ d′) × (n ≡ n′)
+pub next-one : (c : Counter) {d d′ : Counter} {n n′ : Number} → Advances c d n → Advances c d′ n′ → (d ≡ d′) × (n ≡ n′)
 next-one c a b = (a .0 ∙ sym (b .0), a .1 ∙ sym (b .1))
 
 -- the ends of the way round, by computation

@@ -2,7 +2,7 @@
 // plain form; what is lent is proved by hand, so it stays thin.
 ghost use mathlib.Core.Path.{_≡_};
 ghost use Rattle.rules.specs.Rules.{successor as successorOf};
-ghost use Rattle.counter.specs.Step.{Steps};
+ghost use Rattle.counter.specs.Step.{Advances};
 use rules::Number;
 
 // The last number given.
@@ -20,9 +20,9 @@ pub fn successor(n: Number) -> Number
     Number(0)
 }
 
-// Steps the counter lent, and gives the number stepped to. The one before is in use, or was.
+// Advances the counter lent, and gives the number stepped to. The one before is in use, or was.
 pub fn next(c: &mut Counter) -> Number
-    ensures { λ r. ⌜ Steps (now (c .entry)) (now (c .exit)) r ⌝ }
+    ensures { λ r. ⌜ Advances (now (c .entry)) (now (c .exit)) r ⌝ }
 {
     let n = successor(c.last);
     c.last = n;

@@ -40,7 +40,7 @@ pub data Locates (s : List ℕ) (n code offset len : ℕ) : Type 0 where
 -- ---- what the inner functions tell one another
 
 -- r is the first entry with the number n, or the live count
-pub record Sought (s : List ℕ) (n r : ℕ) : Type 0 where
+pub record EntryFor (s : List ℕ) (n r : ℕ) : Type 0 where
   pub upto : r ≤ getD s 3 0
   pub before : (k : ℕ) → k < r → getD s (entryAt k + 1) 0 ≢ n
   pub here : r < getD s 3 0 → getD s (entryAt r + 1) 0 ≡ n

@@ -21,7 +21,7 @@ use Rattle.loading.specs.Loads.{Loads}
 use Rattle.loading.specs.Judges.{image-of}
 use Rattle.loading.specs.Injective.{entry-of, encode-injective}
 use Rattle.loading.specs.Accepts.{accepts, refuses-of, refuses-not, refuses-one}
-use Rattle.image.specs.Locates.{Spotted, Absent, Locates, spotted, missing, unread, Sought}
+use Rattle.image.specs.Locates.{Spotted, Absent, Locates, spotted, missing, unread, EntryFor}
 use Rattle.loading.specs.declared.Loaded.{Loaded}
 
 -- ---- the three ends
@@ -35,7 +35,7 @@ module _ {s : List ℕ} {n : ℕ} {r : Loaded} (L : Loads s r) where
   pub locates-unread : r .code ≢ 0 → Locates s n (r .code) 0 0
   locates-unread k = unread (refuses-of L k) refl refl
 
-  module _ (z : r .code ≡ 0) {i : ℕ} (k : Sought s n i) where
+  module _ (z : r .code ≡ 0) {i : ℕ} (k : EntryFor s n i) where
     pub locates-missing : getD s 3 0 ≤ i → Locates s n 4 0 0
     locates-missing h =
         let w = accepts L .0 z in
@@ -103,7 +103,7 @@ locate-within (unread R f g) = omega arith
 
 -- ---- one answer
 
-pub record Same (c o l d p k : ℕ) : Type 0 where
+pub record SamePart (c o l d p k : ℕ) : Type 0 where
   pub code-same : c ≡ d
   pub offset-same : o ≡ p
   pub length-same : l ≡ k
@@ -141,7 +141,7 @@ spotted-not F A =
     absurd (A .nobody (F .place) (rw e at (spotted-lives F)) (rw e at (F .number)))
 
 -- two answers that keep the promise are one
-pub locate-one : {s : List ℕ} {n c o l d p k : ℕ} → Locates s n c o l → Locates s n d p k → Same c o l d p k
+pub locate-one : {s : List ℕ} {n c o l d p k : ℕ} → Locates s n c o l → Locates s n d p k → SamePart c o l d p k
 locate-one (spotted F z) (spotted G y) = record { code-same = z ∙ sym y; offset-same = spotted-offset F G; length-same = spotted-length F G }
 locate-one (spotted F z) (missing B y f g) = spotted-not F B
 locate-one (spotted F z) (unread S f g) = absurd (refuses-not S (F .m, F .consistent, F .image))

@@ -3,7 +3,7 @@ ghost use mathlib.Core.Path.{_≡_};
 ghost use Prim.Native.Nat.{_+_, _<_};
 ghost use lib.ListN.{getD};
 ghost use Rattle.loading.specs.Entry.{bodyAt};
-ghost use Rattle.image.specs.Locates.{Locates, Sought};
+ghost use Rattle.image.specs.Locates.{Locates, EntryFor};
 use super::Part;
 use loading::bytes;
 use rules::Number;
@@ -14,7 +14,7 @@ const NOT_LIVE: u8 = 4;
 
 // The entry of the number n, or the live count where it has none.
 fn find(image: &[u8], n: Number) -> usize
-    ensures { λ r. ⌜ Sought (now (image .entry)) (n .0) r ⌝ }
+    ensures { λ r. ⌜ EntryFor (now (image .entry)) (n .0) r ⌝ }
 {
     let live = bytes::wide(bytes::at(image, format::LIVE_AT));
     let mut i = 0;

@@ -22,7 +22,7 @@ use Rattle.order.specs.End.{endLast}
 use Rattle.order.specs.Order.{written}
 use Rattle.table.specs.Cells.{cell, shown, Stands, inboxLines, inbox-line}
 use Rattle.table.specs.Rows.{thread-at}
-use Rattle.table.specs.Stores.{Wrote}
+use Rattle.table.specs.Stores.{Stored}
 use Rattle.table.specs.Clean.{emptied}
 use Rattle.table.specs.declared.Desk.{Desk}
 use Rattle.events.specs.declared.Outcome.{Outcome}
@@ -32,11 +32,11 @@ use Rattle.verbs.specs.Caller.{sounds}
 use Rattle.verbs.specs.Find.{found, found-is}
 use Rattle.life.specs.Drain.{drains}
 use Rattle.life.specs.HandBack.{backs, handed-drained}
-use Rattle.life.specs.LetGo.{Lies, letFrom}
+use Rattle.life.specs.LetGo.{SoundOn, letFrom}
 use Rattle.life.specs.Leave.{Served, Leaves}
 
 -- number n, which lives at p, ends
-pub record Ends (d : Desk) (b w l : List ℕ) (n p : ℕ) : Type 0 where
+pub record EndsAt (d : Desk) (b w l : List ℕ) (n p : ℕ) : Type 0 where
   pub stands : Stands d b w l
   pub at : placeOf (shown d b w l) n ≡ p
   pub known : p ≡ none → ⊥
@@ -45,7 +45,7 @@ let-all : (n : ℕ) (m : Model) → letFrom n 0 places m ≡ letGo n allPlaces m
 unfolding letFrom allPlaces
 let-all n m = refl
 
-module _ {d : Desk} {b w l : List ℕ} {n p : ℕ} (k : Ends d b w l n p) where
+module _ {d : Desk} {b w l : List ℕ} {n p : ℕ} (k : EndsAt d b w l n p) where
   lived : (thread (shown d b w l) p .standing ≢ Empty) × (thread (shown d b w l) p .number ≡ n)
   lived = let m = shown d b w l in subst (λ (q : ℕ). (thread m q .standing ≢ Empty) × (thread m q .number ≡ n)) (k .at) (placed m n (λ z. k .known (sym (k .at) ∙ z)))
 
@@ -65,7 +65,7 @@ module _ {d : Desk} {b w l : List ℕ} {n p : ℕ} (k : Ends d b w l n p) where
     handed : Handed (shown d b w l) p (shown d b₁ w₁ l₁)
     handed = let m = shown d b w l in rw back-seen (hands (line m (inbox p)) m (sounds (k .stands)) n p end-low (lived .0) refl)
 
-    pub end-lies : Lies b₁ w₁ l₁
+    pub end-lies : SoundOn b₁ w₁ l₁
     end-lies = record { last = d .last .0; running = d .running .0; whole = s .whole; sound = handed .step .kept .sound }
 
     -- and so have those who await a reply
@@ -86,7 +86,7 @@ module _ {d : Desk} {b w l : List ℕ} {n p : ℕ} (k : Ends d b w l n p) where
           subst (λ (q : ℕ). q < places) (ap (λ (u : Thread). placeOf m (u .partner)) at ∙ found-is (d .last .0) (d .running .0) (getD b₂ (cell 2 p) 0) b₂ w₂ l₂) i
 
       -- it leaves its line, and its place is cleaned
-      pub ended : {e : Desk} {l₃ b₃ w₃ : List ℕ} → Leaves d b₂ l₂ p e l₃ → Wrote b₂ w₂ p emptied b₃ w₃ → Turns d b w l e b₃ w₃ l₃ (end n)
+      pub ended : {e : Desk} {l₃ b₃ w₃ : List ℕ} → Leaves d b₂ l₂ p e l₃ → Stored b₂ w₂ p emptied b₃ w₃ → Turns d b w l e b₃ w₃ l₃ (end n)
       ended {e} {l₃} u v =
           let m = shown d b w l in
           let x = u w₂ (t .whole) in
@@ -118,7 +118,7 @@ module _ {d : Desk} {b w l : List ℕ} (k : Stands d b w l) (n : Number) where
     end-4 z = refused k (End n) no-word 4 (omega arith) (code ∙ rw z) refl
 
     module _ (z : p ≡ none → ⊥) where
-      pub ends : Ends d b w l (n .0) p
+      pub ends : EndsAt d b w l (n .0) p
       ends = record { stands = k; at = there; known = z }
 
       pub end-0 : {e : Desk} {b′ w′ l′ : List ℕ} → Turns d b w l e b′ w′ l′ (end (n .0)) → {x : ℕ} → Less (e .filled) p x

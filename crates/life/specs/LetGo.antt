@@ -23,7 +23,7 @@ use Rattle.verbs.specs.Caller.{loose}
 use Rattle.life.specs.HandBack.{backs}
 
 -- Sound, with somebody or nobody running and some number last: what a helper asks for that does not see the desk
-pub record Lies (b w l : List ℕ) : Type 0 where
+pub record SoundOn (b w l : List ℕ) : Type 0 where
   pub last : ℕ
   pub running : ℕ
   pub whole : Whole b w l
@@ -31,7 +31,7 @@ pub record Lies (b w l : List ℕ) : Type 0 where
 
 -- ---- one place
 
-module _ {b w l : List ℕ} (k : Lies b w l) (n : ℕ) {p : ℕ} (h : p < places) {t : Bool} (e : t ≡ awaitsOf b p n) where
+module _ {b w l : List ℕ} (k : SoundOn b w l) (n : ℕ) {p : ℕ} (h : p < places) {t : Bool} (e : t ≡ awaitsOf b p n) where
   asked : (y x : ℕ) → awaitsAt p n (modelOf y x b w l) ≡ t
   asked y x = ap (λ (u : Thread). eqb (u .standing) Awaiting && eqb (u .partner) n) (thread-at y x b w l p h) ∙ sym e
 
@@ -61,10 +61,10 @@ step n p m h = let e : places - p ≡ suc (places - suc p) = omega arith in rw (
 pub record Letting (n : ℕ) (b w l b′ w′ l′ : List ℕ) (p : ℕ) : Type 0 where
   pub upto : p ≤ places
   pub low : n ≤ lastNumber
-  pub now : Lies b′ w′ l′
+  pub now : SoundOn b′ w′ l′
   pub goes : (y x : ℕ) → letFrom n 0 places (modelOf y x b w l) ≡ letFrom n p (places - p) (modelOf y x b′ w′ l′)
 
-pub let-start : {n : ℕ} {b w l : List ℕ} → n ≤ lastNumber → Lies b w l → Letting n b w l b w l 0
+pub let-start : {n : ℕ} {b w l : List ℕ} → n ≤ lastNumber → SoundOn b w l → Letting n b w l b w l 0
 let-start h k = record { upto = omega arith; low = h; now = k; goes = λ y x. refl }
 
 module _ {n : ℕ} {b₀ w₀ l₀ b w l : List ℕ} {p : ℕ} (g : Letting n b₀ w₀ l₀ b w l p) where

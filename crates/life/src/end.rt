@@ -11,9 +11,9 @@ ghost use Rattle.verbs.specs.Steps.{Steps, Turns};
 ghost use Rattle.events.specs.Events.{Did};
 ghost use Rattle.life.specs.Drain.{First, drains};
 ghost use Rattle.life.specs.HandBack.{backs};
-ghost use Rattle.life.specs.LetGo.{Lies, letFrom};
+ghost use Rattle.life.specs.LetGo.{SoundOn, letFrom};
 ghost use Rattle.life.specs.Leave.{lineIn, Served, Leaves};
-ghost use Rattle.life.specs.End.{Ends};
+ghost use Rattle.life.specs.End.{EndsAt};
 use events::Outcome;
 use events::answer;
 use lines::Links;
@@ -60,7 +60,7 @@ fn hand_all_back(b: &mut Blocks, w: &mut Words, l: &mut Links, n: Number, q: u8)
 
 // The thread at p gets its own word back if it awaits a reply of the number n, which ends. Nothing changes if it does not.
 fn let_one(b: &mut Blocks, w: &mut Words, l: &mut Links, n: Number, p: Place)
-    requires { ⌜ Lies (now b) (now w) (now l) × (p .0 < places) ⌝ }
+    requires { ⌜ SoundOn (now b) (now w) (now l) × (p .0 < places) ⌝ }
     ensures { λ r. ⌜ Steps (now (b .entry)) (now (w .entry)) (now (l .entry)) (now (b .exit)) (now (w .exit)) (now (l .exit)) (let-step (n .0) (p .0)) ⌝ }
 {
     if !table::awaits(b, p, n) {
@@ -71,7 +71,7 @@ fn let_one(b: &mut Blocks, w: &mut Words, l: &mut Links, n: Number, p: Place)
 
 // All who await a reply of the number n, which ends, get their own word back, by rising place.
 fn let_go(b: &mut Blocks, w: &mut Words, l: &mut Links, n: Number)
-    requires { ⌜ Lies (now b) (now w) (now l) × (n .0 ≤ lastNumber) ⌝ }
+    requires { ⌜ SoundOn (now b) (now w) (now l) × (n .0 ≤ lastNumber) ⌝ }
     ensures { λ r. ⌜ Steps (now (b .entry)) (now (w .entry)) (now (l .entry)) (now (b .exit)) (now (w .exit)) (now (l .exit)) (letFrom (n .0) 0 places) ⌝ }
 {
     let mut p: u8 = 0;
@@ -119,7 +119,7 @@ fn out_of_line(b: &Blocks, l: &mut Links, d: Desk, p: Place) -> Desk
 
 // The thread at p, of the number n, ends. It leaves its line last: until then every thread that names it as a partner finds it.
 fn end_at(b: &mut Blocks, w: &mut Words, l: &mut Links, d: Desk, n: Number, p: Place) -> Desk
-    requires { ⌜ Ends d (now b) (now w) (now l) (n .0) (p .0) ⌝ }
+    requires { ⌜ EndsAt d (now b) (now w) (now l) (n .0) (p .0) ⌝ }
     ensures { λ r. ⌜ Turns d (now (b .entry)) (now (w .entry)) (now (l .entry)) r (now (b .exit)) (now (w .exit)) (now (l .exit)) (end (n .0)) ⌝ }
 {
     hand_all_back(b, w, l, n, table::INBOX_LINES + p.0);

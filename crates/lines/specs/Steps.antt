@@ -41,7 +41,7 @@ abbrev pub Marks : ℕ → List ℕ → ℕ → (ℕ → List ℕ) → Type 0
 Marks P s n ls = (p : ℕ) → p < P → (getD s p 0 ≡ none → Loose n ls p) × ((getD s p 0 ≡ none → ⊥) → (getD s p 0 < n) × (among p (ls (getD s p 0)) ≡ true))
 
 -- the first q lines are good, and the marks s theirs
-pub record Done (P N : ℕ) (l s : List ℕ) (q : ℕ) : Type 0 where
+pub record DoneUpTo (P N : ℕ) (l s : List ℕ) (q : ℕ) : Type 0 where
   pub ls : ℕ → List ℕ
   pub room : length s ≡ P
   pub linked : (r : ℕ) → r < q → Path P l (P + r) (ls r) none

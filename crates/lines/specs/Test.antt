@@ -12,7 +12,7 @@ use lib.Seq.{getD-set-same, getD-set-other}
 use Rattle.lists.specs.Lists.{none, among, Distinct}
 use Rattle.lists.specs.Laws.{by-test, never, not-cons, not-append, is-head, is-left, is-right, distinct-fore}
 use Rattle.lines.specs.Lines.{lineOf, Loose, Path, lastCell, Tidy, Whereabouts, upd}
-use Rattle.lines.specs.Steps.{bare, Marks, Done, Scan}
+use Rattle.lines.specs.Steps.{bare, Marks, DoneUpTo, Scan}
 use Rattle.lines.specs.Walks.{last-append, path-place, path-more, path-in, last-high, last-place, path-one, path-on}
 use Rattle.lines.specs.Arrays.{apart-upd, is-tidy, once}
 
@@ -25,7 +25,7 @@ bare-less (x ∷ s) (suc i) h e q n =
     by-test (eqb x none) (λ t. rw t (omega arith)) (λ t. rw t ih)
 
 module _ {P N : ℕ} {l : List ℕ} where
-  pub done-none : {s : List ℕ} → s ≡ replicate P none → Done P N l s 0
+  pub done-none : {s : List ℕ} → s ≡ replicate P none → DoneUpTo P N l s 0
   done-none {s} e = record {
     ls = λ q. [];
     room = ap length e ∙ length-replicate P none;
@@ -36,7 +36,7 @@ module _ {P N : ℕ} {l : List ℕ} where
   }
 
   -- line q is begun
-  pub scan-start : {s : List ℕ} {q : ℕ} → Done P N l s q → Scan P N l s q (P + q)
+  pub scan-start : {s : List ℕ} {q : ℕ} → DoneUpTo P N l s q → Scan P N l s q (P + q)
   scan-start {s} {q} k = record {
     ls = upd (k .ls) q [];
     room = k .room;
@@ -122,7 +122,7 @@ module _ {P N : ℕ} {l : List ℕ} where
       }
 
     -- line q is whole
-    done-step : x ≡ none → getD l (P + N + q) 0 ≡ lastCell none (k .ls q) → Done P N l s (q + 1)
+    done-step : x ≡ none → getD l (P + N + q) 0 ≡ lastCell none (k .ls q) → DoneUpTo P N l s (q + 1)
     done-step e t = rw add-one (record {
       ls = k .ls;
       room = k .room;
@@ -132,10 +132,10 @@ module _ {P N : ℕ} {l : List ℕ} where
       marks = k .marks;
     })
 
-    pub done-high : x ≡ none → P ≤ c → getD l (P + N + q) 0 ≡ none → Done P N l s (q + 1)
+    pub done-high : x ≡ none → P ≤ c → getD l (P + N + q) 0 ≡ none → DoneUpTo P N l s (q + 1)
     done-high e h t = done-step e (t ∙ last-high P l (P + q) (k .ls q) x (k .upto) (rw (k .cell) at h))
 
-    pub done-place : x ≡ none → c < P → getD l (P + N + q) 0 ≡ c → Done P N l s (q + 1)
+    pub done-place : x ≡ none → c < P → getD l (P + N + q) 0 ≡ c → DoneUpTo P N l s (q + 1)
     done-place e h t = done-step e (t ∙ k .cell ∙ last-place P (P + q) (k .ls q) (omega arith) (rw (k .cell) at h))
 
     -- ---- what is found that no tidy array has
@@ -175,7 +175,7 @@ module _ {P N : ℕ} {l : List ℕ} where
       bad-last e h n = n (z .tails q b ∙ rw (line-is e) (sym (k .cell ∙ last-place P (P + q) (k .ls q) (omega arith) (rw (k .cell) at h))))
 
   -- ---- the places that stand in no line
-  module _ {s : List ℕ} (k : Done P N l s N) (small : P ≤ none) where
+  module _ {s : List ℕ} (k : DoneUpTo P N l s N) (small : P ≤ none) where
     all-tidy : length l ≡ P + N + N → ((p : ℕ) → p < P → getD s p 0 ≡ none → getD l p 0 ≡ none) → Tidy P N l
     all-tidy w f = is-tidy P N small l (k .ls) (record {
       whole = w;

@@ -8,7 +8,7 @@ ghost use Rattle.lists.specs.Lists.{without, front};
 ghost use Rattle.lists.specs.Tells.{Tells};
 ghost use Rattle.lists.specs.Sizes.{places, lineCount, cells};
 ghost use Rattle.lines.specs.Lines.{lineOf, Loose, Tidy, Turned, Popped, Clear, Whereabouts, Next};
-ghost use Rattle.lines.specs.Steps.{Behind, Sought, Done};
+ghost use Rattle.lines.specs.Steps.{Behind, Sought, DoneUpTo};
 
 // The sizes. Their other home is `Sizes.antt` of crate `lists`, which the contracts cite; no other line names a number of places or lines.
 pub const PLACES: usize = 32;
@@ -143,8 +143,8 @@ pub fn fresh() -> Links
 
 // Line q is walked, and its places marked with q. False where the array cannot be tidy.
 fn mark(l: &Links, seen: &mut [u8; PLACES], q: u8) -> bool
-    requires { ⌜ (q < lineCount) × Done places lineCount (now l) (now seen) q ⌝ }
-    ensures { λ r. ⌜ Tells r (Done places lineCount (now (l .entry)) (now (seen .exit)) (q + 1)) (Tidy places lineCount (now (l .entry)) → ⊥) ⌝ }
+    requires { ⌜ (q < lineCount) × DoneUpTo places lineCount (now l) (now seen) q ⌝ }
+    ensures { λ r. ⌜ Tells r (DoneUpTo places lineCount (now (l .entry)) (now (seen .exit)) (q + 1)) (Tidy places lineCount (now (l .entry)) → ⊥) ⌝ }
 {
     let line = q as usize;
     let mut at = PLACES + line;
@@ -174,7 +174,7 @@ fn size(s: &[u8]) -> usize
 
 // The lines are good: is NONE what follows each place that stands in no line?
 fn ends(l: &Links, seen: &[u8; PLACES]) -> bool
-    requires { ⌜ Done places lineCount (now l) (now seen) lineCount ⌝ }
+    requires { ⌜ DoneUpTo places lineCount (now l) (now seen) lineCount ⌝ }
     ensures { λ r. ⌜ Tells r (Whereabouts places lineCount (now (l .entry)) (now (seen .entry))) (Tidy places lineCount (now (l .entry)) → ⊥) ⌝ }
 {
     let mut p = 0;

@@ -13,7 +13,7 @@ use Rattle.rules.specs.Consistent.{Consistent}
 use Rattle.nucleus.specs.View.{view, Shows}
 use Rattle.nucleus.specs.Settled.{settled, shows-one}
 use Rattle.saving.specs.Format.{edition, headLength, encode}
-use Rattle.loading.specs.Loads.{headCode, Foreign, Refused, Accepted, Judged, foreign, accepted, Loads, bad-head, good-head, Refuses, by-head, by-whole}
+use Rattle.loading.specs.Loads.{headCode, Foreign, Refused, Taken, Judged, foreign, accepted, Loads, bad-head, good-head, Refuses, by-head, by-whole}
 use Rattle.loading.specs.Judges.{image-of, head-image}
 use Rattle.loading.specs.Injective.{encode-injective}
 use Rattle.loading.specs.declared.Loaded.{Loaded}
@@ -43,7 +43,7 @@ refuses (good-head h (foreign f R)) = (λ z. (h, f), λ g k. R .told)
 refuses {r = r} (good-head h (accepted A)) = (λ z. let t = A .told in absurd (omega arith), λ g k. absurd (k (view (r .state)) (A .consists .consistent) (A .image)))
 
 -- code 0 says that the bytes are the image of the state given
-pub accepted-of : {s : List ℕ} {r : Loaded} → Loads s r → r .code ≡ 0 → Accepted s r
+pub accepted-of : {s : List ℕ} {r : Loaded} → Loads s r → r .code ≡ 0 → Taken s r
 accepted-of (bad-head n R) z = absurd (n (sym (R .told) ∙ z))
 accepted-of (good-head h (foreign f R)) z = let t = R .told in absurd (omega arith)
 accepted-of (good-head h (accepted A)) z = A
@@ -80,13 +80,13 @@ loaded-is e f = λ i. record { code = e i; state = f i }
 refused-one : {c : ℕ} {r t : Loaded} → Refused c r → Refused c t → r ≡ t
 refused-one R T = loaded-is (R .told ∙ sym (T .told)) (shows-one (R .state) (T .state))
 
-accepted-one : {s : List ℕ} {r t : Loaded} → Accepted s r → Accepted s t → r ≡ t
+accepted-one : {s : List ℕ} {r t : Loaded} → Taken s r → Taken s t → r ≡ t
 accepted-one {s} {r} {t} A B =
     loaded-is (A .told ∙ sym (B .told))
     (settled (r .state) (t .state) (A .consists) (B .consists)
     (encode-injective (view (r .state)) (view (t .state)) (A .consists .consistent) (B .consists .consistent) (A .image ∙ sym (B .image))))
 
-never-both : {G : Type 0} {s : List ℕ} {r : Loaded} → Foreign s → Accepted s r → G
+never-both : {G : Type 0} {s : List ℕ} {r : Loaded} → Foreign s → Taken s r → G
 never-both {r = r} f A = absurd (f (view (r .state)) (A .consists .consistent) (A .image))
 
 judged-one : {s : List ℕ} {r t : Loaded} → Judged s r → Judged s t → r ≡ t

@@ -22,14 +22,14 @@ use Rattle.loading.specs.RoundTrip.{saves-well, front-image}
 use Rattle.loading.specs.declared.Loaded.{Loaded}
 
 -- a history from fresh, and its image
-pub record Counted : Type 0 where
+pub record CountedImage : Type 0 where
   pub events : List Event
   pub image : List ℕ
 
 abbrev pair : List Event
 pair = Create ∷ Create ∷ []
 
-unfoldable pub images : List Counted
+unfoldable pub images : List CountedImage
 images =
     -- Fresh.
     record { events = []; image = 1 ∷ 253 ∷ 255 ∷ 0 ∷ 0 ∷ 0 ∷ 8 ∷ 0 ∷ [] }
@@ -46,7 +46,7 @@ images =
     }
     ∷ []
 
-abbrev pub state : Counted → Model
+abbrev pub state : CountedImage → Model
 state c = after (c .events) fresh
 
 -- saved with room, the state gives these bytes; loaded, these bytes give the state; both with code 0

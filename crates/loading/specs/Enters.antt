@@ -14,12 +14,12 @@ use Rattle.rules.specs.Model.{places, lineCount, Model, ready, clock, inbox, th
 use Rattle.rules.specs.Consistent.{Consistent}
 use Rattle.table.specs.Cells.{modelOf, Filled}
 use Rattle.table.specs.Clean.{Sized, Emptied}
-use Rattle.table.specs.Stores.{Wrote}
+use Rattle.table.specs.Stores.{Stored}
 use Rattle.nucleus.specs.View.{Shows}
 use Rattle.saving.specs.Format.{livePlaces}
 use Rattle.saving.specs.Longest.{live-length}
 use Rattle.loading.specs.Positions.{offset}
-use Rattle.loading.specs.Reading.{Image, Joined, threadIn, Filed, opened, Upto, Queued, Entered}
+use Rattle.loading.specs.Reading.{Image, Joined, threadIn, Filed, opened, Upto, QueuesRead, Entered}
 use Rattle.loading.specs.Finds.{last-is, running-is, live-is, readies-is, clocks-is, ready-is, clock-is, thread-is, inbox-length, inbox-is}
 use Rattle.loading.specs.Entry.{within, split, p-low, p-new, p-is, n-is, o-is}
 use Rattle.loading.specs.Joins.{filed-more}
@@ -49,7 +49,7 @@ module _ {s l l₁ l₂ : List ℕ} {n r c : ℕ} (j : Joined s (8 + 4 * n) r re
     both-read : Filed m (opened []) l₂
     both-read = filed-more (I .consistent) ready-read clock (omega arith) refl k (rw (lives, readies, clocks) (clock-is I)) clocks (opened []) refl opens
 
-  pub queued : Queued s l l₂
+  pub queued : QueuesRead s l l₂
   queued = record { filed = both-read }
 
 -- ---- an entry
@@ -61,7 +61,7 @@ entered-no {s} {i = i} k h = record {
   reads = λ m I g U. let t : i < live m = omega arith in let e = p-is I t in let v = p-low I t in absurd (omega arith);
 }
 
-module _ {s b w l b′ w′ l′ : List ℕ} {i p n o c : ℕ} (W : Wrote b w p (λ _. threadIn s n o) b′ w′) (j : Joined s (o + 13) c (2 + p) c l l′)
+module _ {s b w l b′ w′ l′ : List ℕ} {i p n o c : ℕ} (W : Stored b w p (λ _. threadIn s n o) b′ w′) (j : Joined s (o + 13) c (2 + p) c l l′)
     (ep : p ≡ getD s (8 + 4 * i) 0) (en : n ≡ getD s (8 + 4 * i + 1) 0) (eo : o ≡ twoAt s (8 + 4 * i + 2)) (ec : c ≡ getD s (o + 12) 0) where
   module _ (m : Model) (I : Image s m) (g : i < live m) (U : Upto m (take i (livePlaces m)) b w l) where
     abbrev who : ℕ
@@ -109,7 +109,7 @@ entered-more E F = record { sized = F .sized; reads = λ m I g U. F .reads m I g
 
 -- ---- the whole
 
-module _ {s b w l b′ w′ l₁ l′ : List ℕ} {n f y x : ℕ} (e : Emptied b w places) (k : Clear places lineCount l) (q : Queued s l l₁) (E : Entered s 0 n b w l₁ b′ w′ l′)
+module _ {s b w l b′ w′ l₁ l′ : List ℕ} {n f y x : ℕ} (e : Emptied b w places) (k : Clear places lineCount l) (q : QueuesRead s l l₁) (E : Entered s 0 n b w l₁ b′ w′ l′)
     (en : n ≡ getD s 3 0) (ef : Filled f b′) (ey : y ≡ getD s 1 0) (ex : x ≡ getD s 2 0) where
   module _ (m : Model) (I : Image s m) where
     all-in : Upto m (livePlaces m) b′ w′ l′

@@ -17,7 +17,7 @@ use Rattle.rules.specs.Consistent.{Consistent}
 use Rattle.order.specs.Sound.{sound, sending, sent}
 use Rattle.table.specs.Cells.{threadOf, modelOf}
 use Rattle.table.specs.Clean.{Sized, Emptied}
-use Rattle.table.specs.Stores.{Stood, Told, Named, Wrote, wrote-then, named, stood, heard}
+use Rattle.table.specs.Stores.{Stood, Told, Named, Stored, wrote-then, named, stood, heard}
 use Rattle.saving.specs.Format.{livePlaces}
 use Rattle.loading.specs.Positions.{live-in}
 use Rattle.loading.specs.Reading.{threadIn, Filed, opened, Seats, Upto}
@@ -40,7 +40,7 @@ opened-there p qs zero n = refl
 opened-there p qs (suc zero) n = refl
 opened-there p qs (suc (suc r)) n = among-last r p qs ∙ (let z : p ≡ r → ⊥ = λ e. n (ap inbox (sym e)) in rw (ne-eqb p r z))
 
-pub seats-more : {m : Model} {qs b w b′ w′ : List ℕ} {p : ℕ} {t : Thread} → Seats m qs b w → Wrote b w p (λ _. t) b′ w′ → t ≡ thread m p → Seats m (qs ++ (p ∷ [])) b′ w′
+pub seats-more : {m : Model} {qs b w b′ w′ : List ℕ} {p : ℕ} {t : Thread} → Seats m qs b w → Stored b w p (λ _. t) b′ w′ → t ≡ thread m p → Seats m (qs ++ (p ∷ [])) b′ w′
 seats-more {m} {qs} {p = p} S W e = record {
   sized = record { blocks = W .blocks; words = W .words };
   threads = λ r h. by-test (eqb p r)
@@ -96,7 +96,7 @@ module _ {m : Model} (C : Consistent m) where
 
 module _ {b w b₁ b₂ w₂ b₃ w₃ : List ℕ} {p n st pa x co wh y : ℕ} (k : Sized b w) (h : p < places) where
   stored : Named b p n b₁ → Stood b₁ w p st pa x b₂ w₂ → Told b₂ w₂ p co wh y b₃ w₃
-      → Wrote b w p (λ _. record { number = n; standing = st; partner = pa; word = x; code = co; who = wh; answer = y }) b₃ w₃
+      → Stored b w p (λ _. record { number = n; standing = st; partner = pa; word = x; code = co; who = wh; answer = y }) b₃ w₃
   stored e s t =
       let u = named (k .blocks) (k .words) h e in
       let v = stood (u .blocks) (u .words) h s in
@@ -105,5 +105,5 @@ module _ {b w b₁ b₂ w₂ b₃ w₃ : List ℕ} {p n st pa x co wh y : ℕ} (
   -- read from the bytes
   pub seated : (s : List ℕ) (o : ℕ) → Named b p n b₁ → Stood b₁ w p st pa x b₂ w₂ → Told b₂ w₂ p co wh y b₃ w₃
       → record { number = n; standing = st; partner = pa; word = x; code = co; who = wh; answer = y } ≡ threadIn s n o
-      → Wrote b w p (λ _. threadIn s n o) b₃ w₃
+      → Stored b w p (λ _. threadIn s n o) b₃ w₃
   seated s o e u t z = let W = stored e u t in record { blocks = W .blocks; words = W .words; here = W .here ∙ z; there = W .there }

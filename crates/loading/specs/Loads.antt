@@ -33,7 +33,7 @@ pub record Refused (code : ℕ) (r : Loaded) : Type 0 where
   pub state : Shows (r .state) fresh
 
 -- 0, and the state whose image it is
-pub record Accepted (s : List ℕ) (r : Loaded) : Type 0 where
+pub record Taken (s : List ℕ) (r : Loaded) : Type 0 where
   pub told : r .code ≡ 0
   pub consists : Consists (r .state)
   pub image : encode (view (r .state)) ≡ s
@@ -41,7 +41,7 @@ pub record Accepted (s : List ℕ) (r : Loaded) : Type 0 where
 -- bytes whose head is in order
 pub data Judged (s : List ℕ) (r : Loaded) : Type 0 where
   foreign : Foreign s → Refused 10 r → Judged s r
-  accepted : Accepted s r → Judged s r
+  accepted : Taken s r → Judged s r
 
 pub data Loads (s : List ℕ) (r : Loaded) : Type 0 where
   bad-head : headCode s ≢ 0 → Refused (headCode s) r → Loads s r

@@ -71,7 +71,7 @@ pub record Upto (m : Model) (ps b w l : List ℕ) : Type 0 where
   pub filed : Filed m (opened ps) l
 
 -- ready and clock have been read
-pub record Queued (s l l′ : List ℕ) : Type 0 where
+pub record QueuesRead (s l l′ : List ℕ) : Type 0 where
   pub filed : (m : Model) → Image s m → Clear places lineCount l → Filed m (opened []) l′
 
 -- the entries of the contents from i to k have been read

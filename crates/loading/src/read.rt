@@ -2,10 +2,10 @@
 // does not matter: load finds out.
 ghost use Prim.Native.Nat.{_+_, _*_, _^_, _<_};
 ghost use Rattle.table.specs.Clean.{Sized};
-ghost use Rattle.table.specs.Stores.{Wrote};
+ghost use Rattle.table.specs.Stores.{Stored};
 ghost use Rattle.rules.specs.Model.{places, lineCount, Model};
 ghost use Rattle.nucleus.specs.View.{Shows};
-ghost use Rattle.loading.specs.Reading.{Image, Joined, threadIn, Queued, Entered};
+ghost use Rattle.loading.specs.Reading.{Image, Joined, threadIn, QueuesRead, Entered};
 use super::bytes;
 use lines::Links;
 use nucleus::State;
@@ -30,7 +30,7 @@ fn enqueue(image: &[u8], from: usize, count: usize, q: u8, l: &mut Links)
 // The thread with the number n whose body starts at o comes to the place p.
 fn seat(image: &[u8], o: usize, p: Place, n: Number, b: &mut Blocks, w: &mut Words)
     requires { ⌜ (o < 2 ^ 16) × (p .0 < places) × Sized (now b) (now w) ⌝ }
-    ensures { λ r. ⌜ Wrote (now (b .entry)) (now (w .entry)) (p .0) (λ t. threadIn (now (image .entry)) (n .0) o) (now (b .exit)) (now (w .exit)) ⌝ }
+    ensures { λ r. ⌜ Stored (now (b .entry)) (now (w .entry)) (p .0) (λ t. threadIn (now (image .entry)) (n .0) o) (now (b .exit)) (now (w .exit)) ⌝ }
 {
     table::name(b, p, n);
     let partner = Number(bytes::at(image, o + format::PARTNER_AT));
@@ -72,7 +72,7 @@ fn entries(image: &[u8], n: usize, b: &mut Blocks, w: &mut Words, l: &mut Links)
 
 // Ready and clock are read.
 fn queues(image: &[u8], l: &mut Links)
-    ensures { λ r. ⌜ Queued (now (image .entry)) (now (l .entry)) (now (l .exit)) ⌝ }
+    ensures { λ r. ⌜ QueuesRead (now (image .entry)) (now (l .entry)) (now (l .exit)) ⌝ }
 {
     let live = bytes::wide(bytes::at(image, format::LIVE_AT));
     let ready = bytes::wide(bytes::at(image, format::READY_AT));

@@ -29,7 +29,7 @@ use Rattle.logbook.specs.declared.Recorded.{Recorded}
 use Rattle.logbook.specs.declared.Replayed.{Replayed}
 
 -- ---- recording, event after event
--- Each where the one before ended. An event that is refused with 11 or 14 is no history; every other is, also one that the rules refuse.
+-- Each where the one before ended. An event that is refused with 11 or 14 is no session-back; every other is, also one that the rules refuse.
 pub data Session : State → List ℕ → ℕ → List Event → State → List ℕ → ℕ → Type 0 where
   over : {s : State} {log : List ℕ} {at : ℕ} → Session s log at [] s log at
   recorded : {s t : State} {log log′ end : List ℕ} {at q : ℕ} {e : Event} {es : List Event} {r : Recorded} → Records s log at e r log′
@@ -37,9 +37,9 @@ pub data Session : State → List ℕ → ℕ → List Event → State → List 
   dropped : {s t : State} {log log′ end : List ℕ} {at q : ℕ} {e : Event} {es : List Event} {r : Recorded} → Records s log at e r log′
       → (r .code ≡ 11) ⊎ (r .code ≡ 14) → Session (r .state) log′ (r .position) es t end q → Session s log at es t end q
 
--- What a session leaves: the state after its history; at the front of the buffer what stood there, and the log of the history, up to the last
+-- What a session leaves: the state after its session-back; at the front of the buffer what stood there, and the log of the session-back, up to the last
 -- position; and behind that position every byte as it was.
-pub record Leaves (s : State) (log : List ℕ) (at : ℕ) (es : List Event) (t : State) (end : List ℕ) (q : ℕ) : Type 0 where
+pub record SessionLeaves (s : State) (log : List ℕ) (at : ℕ) (es : List Event) (t : State) (end : List ℕ) (q : ℕ) : Type 0 where
   pub state : Shows t (after es (view s))
   pub bytes : take q end ≡ take at log ++ logOf es
   pub behind : drop q end ≡ drop q log
@@ -75,7 +75,7 @@ refusal-low SliceEnd m = omega arith
 refusal-low Tick m = omega arith
 
 -- ---- one event more
-leaves-none : {s : State} {log : List ℕ} {at : ℕ} → Begins s log at → Leaves s log at [] s log at
+leaves-none : {s : State} {log : List ℕ} {at : ℕ} → Begins s log at → SessionLeaves s log at [] s log at
 leaves-none {log = log} {at = at} b = record {
   state = record { consists = b .consists; seen = refl };
   bytes = sym (append-nil (take at log));
@@ -106,7 +106,7 @@ module _ (s : State) (log : List ℕ) (at : ℕ) (e : Event) {log′ : List ℕ}
       let p = a .position in
       sym (drop-drop n (r .position) log′) ∙ ap (drop n) (ap₂ drop p w ∙ write-behind log at e (f .within) ∙ ap (λ (i : ℕ). drop i log) (sym p)) ∙ drop-drop n (r .position) log
 
-  leaves-next : {es : List Event} {t : State} {end : List ℕ} {q : ℕ} → Fits e → Leaves (r .state) log′ (r .position) es t end q → Leaves s log at (e ∷ es) t end q
+  leaves-next : {es : List Event} {t : State} {end : List ℕ} {q : ℕ} → Fits e → SessionLeaves (r .state) log′ (r .position) es t end q → SessionLeaves s log at (e ∷ es) t end q
   leaves-next {es} {q = q} i p =
       let n = same-size in
       let l = length-append (recordOf e) (logOf es) in
@@ -126,14 +126,14 @@ module _ {s : State} {log log′ : List ℕ} {at c : ℕ} {x : Choice} {r : Reco
   begins-same : Begins s log at → Begins (r .state) log′ (r .position)
   begins-same b = rw (a, w) b
 
-  leaves-same : {es : List Event} {t : State} {end : List ℕ} {q : ℕ} → Leaves (r .state) log′ (r .position) es t end q → Leaves s log at es t end q
+  leaves-same : {es : List Event} {t : State} {end : List ℕ} {q : ℕ} → SessionLeaves (r .state) log′ (r .position) es t end q → SessionLeaves s log at es t end q
   leaves-same p = rw (a, w) at p
 
 -- one that the rules saw was not dropped
 not-dropped : (e : Event) (m : Model) {c : ℕ} → c ≡ refusal e m → (c ≡ 11) ⊎ (c ≡ 14) → ⊥
 not-dropped e m h d = let l = refusal-low e m in ⊎-elim (λ z. omega arith) (λ z. omega arith) d
 
-leaves : {s t : State} {log end : List ℕ} {at q : ℕ} {es : List Event} → Begins s log at → Session s log at es t end q → Leaves s log at es t end q
+leaves : {s t : State} {log end : List ℕ} {at q : ℕ} {es : List Event} → Begins s log at → Session s log at es t end q → SessionLeaves s log at es t end q
 leaves b over = leaves-none b
 leaves b (recorded (inconsistent k a w) n m rest) = absurd (m (ap (λ (r : Recorded). r .code) a))
 leaves b (recorded (no-room k f a w) n m rest) = absurd (n (ap (λ (r : Recorded). r .code) a))
@@ -142,7 +142,7 @@ leaves b (dropped (inconsistent k a w) n rest) = absurd (k (b .consists))
 leaves b (dropped (no-room k f a w) n rest) = leaves-same a w (leaves (begins-same a w b) rest)
 leaves b (dropped {e = e} (written k f i a w) n rest) = absurd (not-dropped e _ (a .code) n)
 
-pub session-leaves : {s t : State} {log end : List ℕ} {at q : ℕ} {es : List Event} → Consists s → at ≤ length log → at ≤ limit → Session s log at es t end q → Leaves s log at es t end q
+pub session-leaves : {s t : State} {log end : List ℕ} {at q : ℕ} {es : List Event} → Consists s → at ≤ length log → at ≤ limit → Session s log at es t end q → SessionLeaves s log at es t end q
 session-leaves k h g z = leaves (record { consists = k; within = h; short = g }) z
 
 -- ---- what a log holds
@@ -173,7 +173,7 @@ pub record Holds (log : List ℕ) (q : ℕ) (es : List Event) : Type 0 where
 pub holds-none : (log : List ℕ) → Holds log 0 []
 holds-none log = record { bytes = refl; position = refl; within = omega arith; short = omega arith; fits = tt {0} }
 
--- Recording goes on where it ended: the log is then that of one history.
+-- Recording goes on where it ended: the log is then that of one session-back.
 pub holds-on : {s t : State} {log end : List ℕ} {at q : ℕ} {es fs : List Event} → Holds log at es → Consists s → Session s log at fs t end q → Holds end q (es ++ fs)
 holds-on {es = es} {fs = fs} H k z =
     let L = session-leaves k (H .within) (H .short) z in
@@ -211,14 +211,14 @@ module _ {log : List ℕ} {q : ℕ} {es : List Event} (H : Holds log q es) where
 -- Demand 3's log is the bytes from 0 to the last position returned. It is replayed on a state that stands for what the session began with, as one does
 -- that was saved then and is loaded now.
 module _ {s s₀ t : State} {log end : List ℕ} {q : ℕ} {es : List Event} (k : Consists s) (z : Session s log 0 es t end q) (l : Shows s₀ (view s)) where
-  pub history : (n : ℕ) → n ≤ q → {r : Replayed} → Replays s₀ (take n end) r → Came (view s) (cutAt n es) r
-  history = holds-replayed (holds-on (holds-none log) k z) l
+  pub session-back : (n : ℕ) → n ≤ q → {r : Replayed} → Replays s₀ (take n end) r → Came (view s) (cutAt n es) r
+  session-back = holds-replayed (holds-on (holds-none log) k z) l
 
   -- Nothing cut: replay ends in the very state that the session ended in, byte for byte.
-  pub history-whole : {r : Replayed} → Replays s₀ (take q end) r → (r .state ≡ t) × (r .code ≡ 0) × (r .records ≡ length es) × (r .bytes ≡ q)
-  history-whole {r} p =
+  pub session-whole : {r : Replayed} → Replays s₀ (take q end) r → (r .state ≡ t) × (r .code ≡ 0) × (r .records ≡ length es) × (r .bytes ≡ q)
+  session-whole {r} p =
       let L = session-leaves k (omega arith) (omega arith) z in
       let n : q ≡ length (logOf es) = omega (arith, L .position) in
       let w : wholeIn q es ≡ es = whole-all q es (omega arith) in
-      let a : Came (view s) (readTo q es) r = subst (λ (x : List Event). Came (view s) (readTo q x) r) w (history q (omega arith) p) in
+      let a : Came (view s) (readTo q es) r = subst (λ (x : List Event). Came (view s) (readTo q x) r) w (session-back q (omega arith) p) in
       (shows-one (a .state) (L .state), a .code ∙ rw (eq-eqb (length (logOf es)) q (sym n)), a .records, a .bytes ∙ sym n)

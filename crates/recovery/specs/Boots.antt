@@ -29,8 +29,8 @@ use Rattle.loading.specs.Injective.{encode-injective}
 use Rattle.logbook.specs.Log.{limit, Parsed, logOf}
 use Rattle.logbook.specs.Cut.{wholeIn, cutCode, cutAt, fit-append, fit-whole, cut-log}
 use Rattle.logbook.specs.History.{refusal-low, log-append, after-append, whole-log}
-use Rattle.board.specs.Promise.{placed, kept, replayOn, Replays, unread, played, freshOn}
-use Rattle.recovery.specs.Runs.{heard, eventsOf, allEvents, saidOf, allSaid, Calls, calls-bytes, Ran, ran}
+use Rattle.board.specs.Promise.{placed, kept, replayOn, Brings, unread, played, freshOn}
+use Rattle.recovery.specs.Runs.{heard, eventsOf, allEvents, saidOf, allSaid, Calls, calls-bytes, CallsRan, calls-ran}
 use Rattle.board.specs.declared.Told.{Told}
 use Rattle.board.specs.declared.Brought.{Brought}
 
@@ -90,7 +90,7 @@ pub data Boarded (m : Model) : List Event → List Event → List ℕ → List �
   -- The power fails, and the first k bytes of the log are left. They are replayed on the image kept, which gives the present one; what stands behind the
   -- records that came back is cut off.
   booted : {bs fs : List Event} {image base log out buffer : List ℕ} {k : ℕ} {t : Brought} → Boarded m bs fs image base log → k ≤ length log → k ≤ limit → longestImage ≤ length out
-      → Replays base (take k log) out (t, buffer) → Boarded m bs (wholeIn k fs) (take (t .length) buffer) base (take (t .bytes) log)
+      → Brings base (take k log) out (t, buffer) → Boarded m bs (wholeIn k fs) (take (t .length) buffer) base (take (t .bytes) log)
 
 -- its first boot: the fresh image
 pub first-boot : (out : List ℕ) {a : List ℕ} {c n : ℕ} → longestImage ≤ length out → (c, n, a) ≡ freshOn out → Boarded fresh [] [] (take n a) (take n a) []
@@ -118,7 +118,7 @@ kept-back m p out C h = let l = longest (after (p .events) m) C in rw (le-ltb (l
 
 -- on an image that stands for m
 brings : (m : Model) → Consistent m → (es : List Event) → AllFit es → (k : ℕ) → k ≤ length (logOf es) → k ≤ limit → {image out : List ℕ} {t : Brought × List ℕ} → encode m ≡ image → longestImage ≤ length out
-    → Replays image (take k (logOf es)) out t → t ≡ kept m (cutAt k es) out
+    → Brings image (take k (logOf es)) out t → t ≡ kept m (cutAt k es) out
 brings m C es f k h g e w (unread c R q) = absurd (refuses-not R (m, C, e))
 brings m C es f k h g {out = out} e w (played n D d q) =
     let x : n ≡ m = encode-injective n m D C (d ∙ sym e) in
@@ -136,12 +136,12 @@ module _ {m : Model} (C : Consistent m) where
 
   -- what comes back of such a store
   comes-back : {bs fs : List Event} {image base log : List ℕ} → InStep bs fs image base log → (k : ℕ) → k ≤ length log → k ≤ limit → {out buffer : List ℕ} {t : Brought}
-      → longestImage ≤ length out → Replays base (take k log) out (t, buffer) → Restored m bs (wholeIn k fs) k t buffer
+      → longestImage ≤ length out → Brings base (take k log) out (t, buffer) → Restored m bs (wholeIn k fs) k t buffer
   comes-back {bs} {fs} {base = base} S k h g {out} {buffer} {t} w R =
       let es : List Event = wholeIn k fs in
       let n : Model = after bs m in
       let K : Consistent n = always bs m C (S .before) in
-      let F : Replays base (take k (logOf fs)) out (t, buffer) = rw (S .records) at R in
+      let F : Brings base (take k (logOf fs)) out (t, buffer) = rw (S .records) at R in
       let j : k ≤ length (logOf fs) = rw (S .records) at h in
       let D : Consistent (after es n) = always es n K (fit-whole k fs (S .since)) in
       let q = brings n K fs (S .since) k j g (sym (S .at-save)) w F ∙ kept-back n (cutAt k fs) out D w in
@@ -158,8 +158,8 @@ module _ {m : Model} (C : Consistent m) where
 
   -- what is handed over to its present image
   runs-on : {bs fs : List Event} {image base log last : List ℕ} {recs : List (List ℕ)} {ts : List Told} → InStep bs fs image base log → Calls image recs ts last
-      → Ran (after (bs ++ fs) m) recs ts last
-  runs-on {bs} {fs} S k = ran (after (bs ++ fs) m) (always (bs ++ fs) m C (fit-append bs fs (S .before) (S .since))) (sym (S .present)) k
+      → CallsRan (after (bs ++ fs) m) recs ts last
+  runs-on {bs} {fs} S k = calls-ran (after (bs ++ fs) m) (always (bs ++ fs) m C (fit-append bs fs (S .before) (S .since))) (sym (S .present)) k
 
   in-step : {bs fs : List Event} {image base log : List ℕ} → Boarded m bs fs image base log → InStep bs fs image base log
   in-step (begun e) = record { present = sym e; at-save = sym e; records = refl; before = tt {0}; since = tt {0} }
@@ -200,11 +200,11 @@ module _ {m : Model} (C : Consistent m) where
 -- ---- the theorems
 module _ {m : Model} {bs fs : List Event} {image base log : List ℕ} (C : Consistent m) (life : Boarded m bs fs image base log) where
   -- Whatever is handed over, at any time of its life: images, codes, choices and numbers are those of the rules, for the history so far.
-  pub board-runs : {last : List ℕ} {recs : List (List ℕ)} {ts : List Told} → Calls image recs ts last → Ran (after (bs ++ fs) m) recs ts last
+  pub board-runs : {last : List ℕ} {recs : List (List ℕ)} {ts : List Told} → Calls image recs ts last → CallsRan (after (bs ++ fs) m) recs ts last
   board-runs = runs-on C (in-step C life)
 
   -- Whenever the power fails: the image kept, and the log cut at any byte, bring back the image of the rules' state after the events before the image, and
   -- those of the log that are whole.
-  pub board-back : (k : ℕ) → k ≤ length log → k ≤ limit → {out buffer : List ℕ} {t : Brought} → longestImage ≤ length out → Replays base (take k log) out (t, buffer)
+  pub board-back : (k : ℕ) → k ≤ length log → k ≤ limit → {out buffer : List ℕ} {t : Brought} → longestImage ≤ length out → Brings base (take k log) out (t, buffer)
       → Restored m bs (wholeIn k fs) k t buffer
   board-back = comes-back C (in-step C life)

@@ -8,15 +8,15 @@ use Rattle.rules.specs.Rules.{firstFree}
 use Rattle.rules.specs.Counted.{Seen, Case, found, cases}
 use Rattle.journal.specs.Format.{lengthOf, eventOf, readFrom, readAt}
 use Rattle.saving.specs.Format.{encode}
-use Rattle.loading.specs.Counted.{Counted as Pictured, state, images}
+use Rattle.loading.specs.Counted.{CountedImage, state, images}
 use Rattle.logbook.specs.Log.{parsed}
-use Rattle.logbook.specs.Counted.{Row, Counted as Logged, logs, found as replayed}
+use Rattle.logbook.specs.Counted.{Row, CountedReplay, logs, found as replayed}
 
 -- a case: events that come, a history whose image is looked at, or a log that is replayed
 pub data Counted : Type 0 where
   events : Case → Counted
-  image : Pictured → Counted
-  log : Logged → Counted
+  image : CountedImage → Counted
+  log : CountedReplay → Counted
 
 -- what is seen of it
 pub data Sight : Type 0 where

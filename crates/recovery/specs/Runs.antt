@@ -157,22 +157,22 @@ heard-consistent m UnknownKind size C f = C
 heard-consistent m PastEnd size C f = C
 
 -- ---- all of them, from an image that stands for m
-pub record Ran (m : Model) (recs : List (List ℕ)) (ts : List Told) (last : List ℕ) : Type 0 where
+pub record CallsRan (m : Model) (recs : List (List ℕ)) (ts : List Told) (last : List ℕ) : Type 0 where
   pub image : last ≡ encode (after (allEvents recs) m)
   pub answers : ts ≡ allSaid m recs
   pub consistent : Consistent (after (allEvents recs) m)
 
-pub ran : {image last : List ℕ} {recs : List (List ℕ)} {ts : List Told} (m : Model) → Consistent m → encode m ≡ image → Calls image recs ts last → Ran m recs ts last
-ran m C e over = record { image = sym e; answers = refl; consistent = C }
-ran m C e (accepted {rec = rec} {recs = recs} b h k z rest) =
+pub calls-ran : {image last : List ℕ} {recs : List (List ℕ)} {ts : List Told} (m : Model) → Consistent m → encode m ≡ image → Calls image recs ts last → CallsRan m recs ts last
+calls-ran m C e over = record { image = sym e; answers = refl; consistent = C }
+calls-ran m C e (accepted {rec = rec} {recs = recs} b h k z rest) =
     let s = step-on m C e b h k in
     let n : Model = after (eventsOf rec) m in
-    let r = ran n (heard-consistent m (readAt rec 0) (length rec) C (λ e n q. read-whole rec 0 e n b q .fits)) (sym (s .image z)) rest in
+    let r = calls-ran n (heard-consistent m (readAt rec 0) (length rec) C (λ e n q. read-whole rec 0 e n b q .fits)) (sym (s .image z)) rest in
     record { image = r .image ∙ ap encode (sym (after-append (eventsOf rec) (allEvents recs) m)); answers = ap₂ (λ (t : Told) (ts : List Told). t ∷ ts) (s .same) (r .answers); consistent = rw (after-append (eventsOf rec) (allEvents recs) m) (r .consistent) }
-ran m C e (refused {rec = rec} {recs = recs} b h k z rest) =
+calls-ran m C e (refused {rec = rec} {recs = recs} b h k z rest) =
     let s = step-on m C e b h k in
     let q = s .still z .0 in
-    let r = ran m C e rest in
+    let r = calls-ran m C e rest in
     record {
       image = r .image ∙ ap (λ (x : Model). encode (after (allEvents recs) x)) (sym q) ∙ ap encode (sym (after-append (eventsOf rec) (allEvents recs) m));
       answers = ap₂ (λ (t : Told) (ts : List Told). t ∷ ts) (s .same) (r .answers ∙ ap (λ (x : Model). allSaid x recs) (sym q));

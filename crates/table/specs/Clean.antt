@@ -9,7 +9,7 @@ use lib.ListN.{length}
 use Rattle.rules.specs.Values.{nobody}
 use Rattle.rules.specs.Model.{places, Empty, Thread, vacant}
 use Rattle.table.specs.Cells.{byteRows, wordRows, threadOf}
-use Rattle.table.specs.Stores.{Stood, Told, Named, Wrote, wrote-then, named, stood, heard}
+use Rattle.table.specs.Stores.{Stood, Told, Named, Stored, wrote-then, named, stood, heard}
 
 -- the arrays have the sizes of their types
 pub record Sized (b w : List ℕ) : Type 0 where
@@ -19,7 +19,7 @@ pub record Sized (b w : List ℕ) : Type 0 where
 abbrev pub emptied : Thread → Thread
 emptied t = vacant
 
-pub cleaned : {b w b₁ b₂ w₂ b₃ w₃ : List ℕ} {p : ℕ} → Sized b w → p < places → Named b p nobody b₁ → Stood b₁ w p Empty nobody 0 b₂ w₂ → Told b₂ w₂ p 0 nobody 0 b₃ w₃ → Wrote b w p emptied b₃ w₃
+pub cleaned : {b w b₁ b₂ w₂ b₃ w₃ : List ℕ} {p : ℕ} → Sized b w → p < places → Named b p nobody b₁ → Stood b₁ w p Empty nobody 0 b₂ w₂ → Told b₂ w₂ p 0 nobody 0 b₃ w₃ → Stored b w p emptied b₃ w₃
 cleaned k h n s t =
     let x = named (k .blocks) (k .words) h n in
     let y = stood (x .blocks) (x .words) h s in
@@ -33,7 +33,7 @@ pub record Emptied (b w : List ℕ) (i : ℕ) : Type 0 where
 pub emptied-none : {b w : List ℕ} → Sized b w → Emptied b w 0
 emptied-none k = record { sized = k; clean = λ p h. absurd (omega arith) }
 
-pub emptied-more : {b w b′ w′ : List ℕ} {i : ℕ} → Emptied b w i → i < places → Wrote b w i emptied b′ w′ → Emptied b′ w′ (i + 1)
+pub emptied-more : {b w b′ w′ : List ℕ} {i : ℕ} → Emptied b w i → i < places → Stored b w i emptied b′ w′ → Emptied b′ w′ (i + 1)
 emptied-more {i = i} k h t = rw add-one (record {
   sized = record { blocks = t .blocks; words = t .words };
   clean = λ p g. elim (ℕ-discrete p i) [

@@ -34,34 +34,34 @@ Named b p n b′ = b′ ≡ set b (cell 0 p) n
 -- ---- what it makes of the threads
 
 -- f made another of the thread at p, and nothing else is changed
-pub record Wrote (b w : List ℕ) (p : ℕ) (f : Thread → Thread) (b′ w′ : List ℕ) : Type 0 where
+pub record Stored (b w : List ℕ) (p : ℕ) (f : Thread → Thread) (b′ w′ : List ℕ) : Type 0 where
   pub blocks : length b′ ≡ byteRows * places
   pub words : length w′ ≡ wordRows * places
   pub here : threadOf b′ w′ p ≡ f (threadOf b w p)
   pub there : (r : ℕ) → r < places → (r ≡ p → ⊥) → threadOf b′ w′ r ≡ threadOf b w r
 
-pub wrote-then : {b w b₁ w₁ b₂ w₂ : List ℕ} {p : ℕ} {f g : Thread → Thread} → Wrote b w p f b₁ w₁ → Wrote b₁ w₁ p g b₂ w₂ → Wrote b w p (λ t. g (f t)) b₂ w₂
+pub wrote-then : {b w b₁ w₁ b₂ w₂ : List ℕ} {p : ℕ} {f g : Thread → Thread} → Stored b w p f b₁ w₁ → Stored b₁ w₁ p g b₂ w₂ → Stored b w p (λ t. g (f t)) b₂ w₂
 wrote-then {g = g} s t = record { blocks = t .blocks; words = t .words; here = t .here ∙ ap g (s .here); there = λ r h n. t .there r h n ∙ s .there r h n }
 
 module _ {b w : List ℕ} (i : length b ≡ byteRows * places) (j : length w ≡ wordRows * places) {p : ℕ} (h : p < places) where
-  byte : (k x : ℕ) → k < byteRows → Wrote b w p (withByte k x) (set b (cell k p) x) w
+  byte : (k x : ℕ) → k < byteRows → Stored b w p (withByte k x) (set b (cell k p) x) w
   byte k x e = record { blocks = length-set b (cell k p) x ∙ i; words = j; here = byte-here b w p h i x k e; there = byte-there b w p h i x k }
 
-  word : (k x : ℕ) → k < wordRows → Wrote b w p (withWord k x) b (set w (cell k p) x)
+  word : (k x : ℕ) → k < wordRows → Stored b w p (withWord k x) b (set w (cell k p) x)
   word k x e = record { blocks = i; words = length-set w (cell k p) x ∙ j; here = word-here b w p h j x k e; there = word-there b w p h j x k }
 
 module _ {b w : List ℕ} (i : length b ≡ byteRows * places) (j : length w ≡ wordRows * places) {p : ℕ} (h : p < places) {b′ w′ : List ℕ} where
-  pub stood : {st pa x : ℕ} → Stood b w p st pa x b′ w′ → Wrote b w p (stands st pa x) b′ w′
+  pub stood : {st pa x : ℕ} → Stood b w p st pa x b′ w′ → Stored b w p (stands st pa x) b′ w′
   stood {st} {pa} {x} e =
       let s = byte i j h 1 st (omega arith) in
       let t = byte (s .blocks) (s .words) h 2 pa (omega arith) in
       rw (e .0, e .1) (wrote-then s (wrote-then t (word (t .blocks) (t .words) h 0 x (omega arith))))
 
-  pub heard : {co n x : ℕ} → Told b w p co n x b′ w′ → Wrote b w p (told co n x) b′ w′
+  pub heard : {co n x : ℕ} → Told b w p co n x b′ w′ → Stored b w p (told co n x) b′ w′
   heard {co} {n} {x} e =
       let s = byte i j h 3 co (omega arith) in
       let t = byte (s .blocks) (s .words) h 4 n (omega arith) in
       rw (e .0, e .1) (wrote-then s (wrote-then t (word (t .blocks) (t .words) h 1 x (omega arith))))
 
-pub named : {b w b′ : List ℕ} {p n : ℕ} → length b ≡ byteRows * places → length w ≡ wordRows * places → p < places → Named b p n b′ → Wrote b w p (withByte 0 n) b′ w
+pub named : {b w b′ : List ℕ} {p n : ℕ} → length b ≡ byteRows * places → length w ≡ wordRows * places → p < places → Named b p n b′ → Stored b w p (withByte 0 n) b′ w
 named {n = n} i j h e = rw e (byte i j h 0 n (omega arith))

@@ -8,7 +8,7 @@ ghost use Rattle.rules.specs.Model.{places, vacant};
 ghost use Rattle.rules.specs.Rules.{hears, choice};
 ghost use Rattle.table.specs.Cells.{cell, threadOf, shown, asThread};
 ghost use Rattle.table.specs.Choose.{Legible};
-ghost use Rattle.table.specs.Stores.{Stood, Told, Named, Wrote, awaitsOf};
+ghost use Rattle.table.specs.Stores.{Stood, Told, Named, Stored, awaitsOf};
 ghost use Rattle.table.specs.Clean.{Sized, emptied, Emptied};
 use lines::Links;
 use rules::Choice;
@@ -194,7 +194,7 @@ pub fn name(b: &mut Blocks, p: Place, n: Number)
 // The place p is cleaned.
 pub fn clean(b: &mut Blocks, w: &mut Words, p: Place)
     requires { ⌜ Sized (now b) (now w) × (p .0 < places) ⌝ }
-    ensures { λ r. ⌜ Wrote (now (b .entry)) (now (w .entry)) (p .0) emptied (now (b .exit)) (now (w .exit)) ⌝ }
+    ensures { λ r. ⌜ Stored (now (b .entry)) (now (w .entry)) (p .0) emptied (now (b .exit)) (now (w .exit)) ⌝ }
 {
     name(b, p, Number(rules::NOBODY));
     stand(b, w, p, rules::EMPTY, Number(rules::NOBODY), 0);

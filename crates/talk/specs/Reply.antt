@@ -22,9 +22,9 @@ use Rattle.events.specs.declared.Outcome.{Outcome}
 use Rattle.verbs.specs.Steps.{Steps, Turns, changing, running, then, turns, twice}
 use Rattle.events.specs.Events.{Did, answered, refused, done}
 use Rattle.verbs.specs.Caller.{mine-is}
-use Rattle.verbs.specs.Address.{Meets, met-place, Addressed}
+use Rattle.verbs.specs.Address.{CallsOn, met-place, Addressed}
 
-module _ {d : Desk} {b w l : List ℕ} {n p : ℕ} (k : Meets d b w l n p) {me : ℕ} (own : me ≡ getD b (cell 0 (d .running .0)) 0) where
+module _ {d : Desk} {b w l : List ℕ} {n p : ℕ} (k : CallsOn d b w l n p) {me : ℕ} (own : me ≡ getD b (cell 0 (d .running .0)) 0) where
   mine-me : mine (shown d b w l) ≡ me
   mine-me = mine-is (k .stands) (k .busy) ∙ sym own
 
@@ -54,7 +54,7 @@ module _ {d : Desk} {b w l : List ℕ} (k : Stands d b w l) (n : Number) (x : �
 
   module _ (z : r .code ≡ 0) {me : ℕ} (own : me ≡ getD b (cell 0 (d .running .0)) 0) {t : Bool} (h : t ≡ awaitsOf b (r .at .0) me) where
     code : refusal (Reply n x) (shown d b w l) ≡ cond (not t) 5 0
-    code = a .past z _ ∙ ap (λ (y : Bool). cond y 5 0) (awaited (a .meets z) own ∙ ap not (sym h))
+    code = a .past z _ ∙ ap (λ (y : Bool). cond y 5 0) (awaited (a .calls z) own ∙ ap not (sym h))
 
     pub reply-5 : t ≡ false → {o : Outcome} → o ≡ answered 5 d → Did d b w l (Reply n x) o b w l
     reply-5 y = refused k (Reply n x) short 5 (omega arith) (code ∙ rw y) refl

@@ -22,13 +22,13 @@ use Rattle.events.specs.declared.Outcome.{Outcome}
 use Rattle.verbs.specs.Steps.{Steps, Turns, changing, running, turns}
 use Rattle.events.specs.Events.{Did, answered, refused, done}
 use Rattle.verbs.specs.Caller.{sounds, loose, mine-is}
-use Rattle.verbs.specs.Address.{Meets, met-place, Addressed}
+use Rattle.verbs.specs.Address.{CallsOn, met-place, Addressed}
 
 -- the rule, its look-ups done
 send-as : (m : Model) (d w p me : ℕ) → placeOf m d ≡ p → mine m ≡ me → send d w m ≡ sendTo p me d w m
 send-as m d w p me e f = ap₂ (λ (p me : ℕ). sendTo p me d w m) e f
 
-module _ {d : Desk} {b w l : List ℕ} {n p : ℕ} (k : Meets d b w l n p) {me : ℕ} (own : me ≡ getD b (cell 0 (d .running .0)) 0) where
+module _ {d : Desk} {b w l : List ℕ} {n p : ℕ} (k : CallsOn d b w l n p) {me : ℕ} (own : me ≡ getD b (cell 0 (d .running .0)) 0) where
   listening : hears (thread (shown d b w l) p) me ≡ hears (threadOf b [] p) me
   listening = ap (λ (t : Thread). hears t me) (thread-at (d .last .0) (d .running .0) b w l p (met-place k))
 

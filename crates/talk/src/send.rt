@@ -4,7 +4,7 @@ ghost use Rattle.rules.specs.declared.Event.the-variants.{Send};
 ghost use Rattle.table.specs.Cells.{Stands};
 ghost use Rattle.verbs.specs.Steps.{Turns};
 ghost use Rattle.events.specs.Events.{Did};
-ghost use Rattle.verbs.specs.Address.{Meets};
+ghost use Rattle.verbs.specs.Address.{CallsOn};
 use events::Outcome;
 use events::answer;
 use lines::Links;
@@ -25,7 +25,7 @@ fn deliver(
     word: u32,
     p: Place,
 ) -> Desk
-    requires { ⌜ Meets d (now b) (now w) (now l) (to .0) (p .0) ⌝ }
+    requires { ⌜ CallsOn d (now b) (now w) (now l) (to .0) (p .0) ⌝ }
     ensures { λ r. ⌜ Turns d (now (b .entry)) (now (w .entry)) (now (l .entry)) r (now (b .exit)) (now (w .exit)) (now (l .exit)) (send (to .0) word) ⌝ }
 {
     let c = d.running;

@@ -80,7 +80,7 @@ abbrev pub addressing : Model → ℕ → ℕ → ℕ
 addressing m n x = naming m n (notLive m n gives 4 else x)
 
 -- number n lives at p, and somebody calls
-pub record Meets (d : Desk) (b w l : List ℕ) (n p : ℕ) : Type 0 where
+pub record CallsOn (d : Desk) (b w l : List ℕ) (n p : ℕ) : Type 0 where
   pub stands : Stands d b w l
   pub busy : d .running .0 ≡ none → ⊥
   pub at : placeOf (shown d b w l) n ≡ p
@@ -89,7 +89,7 @@ pub record Meets (d : Desk) (b w l : List ℕ) (n p : ℕ) : Type 0 where
 pub record Addressed (d : Desk) (b w l : List ℕ) (n : ℕ) (r : Address) : Type 0 where
   pub not : (r .code ≡ 0 → ⊥) → (x : ℕ) → addressing (shown d b w l) n x ≡ r .code
   pub past : r .code ≡ 0 → (x : ℕ) → addressing (shown d b w l) n x ≡ x
-  pub meets : r .code ≡ 0 → Meets d b w l n (r .at .0)
+  pub calls : r .code ≡ 0 → CallsOn d b w l n (r .at .0)
 
 abbrev pub Addresses : Desk → List ℕ → ℕ → Address → Type 0
 Addresses d b n r = (w l : List ℕ) → Stands d b w l → Addressed d b w l n r
@@ -99,7 +99,7 @@ addressAs c p = record { code = c; at = record { 0 = p } }
 
 module _ {d : Desk} {b : List ℕ} (n : ℕ) {c : ℕ} (e : Names d b n c) where
   pub addresses-not : (p : ℕ) → (c ≡ 0 → ⊥) → Addresses d b n (addressAs c p)
-  addresses-not p z w l k = record { not = λ _ x. naming-not (shown d b w l) n c _ (e w l k) z; past = λ y. absurd (z y); meets = λ y. absurd (z y) }
+  addresses-not p z w l k = record { not = λ _ x. naming-not (shown d b w l) n c _ (e w l k) z; past = λ y. absurd (z y); calls = λ y. absurd (z y) }
 
   module _ (z : c ≡ 0) {p : ℕ} (f : p ≡ found b n) where
     there : (w l : List ℕ) → placeOf (shown d b w l) n ≡ p
@@ -113,18 +113,18 @@ module _ {d : Desk} {b : List ℕ} (n : ℕ) {c : ℕ} (e : Names d b n c) where
         twice false = refl
 
     pub addresses-4 : p ≡ none → Addresses d b n (addressAs 4 p)
-    addresses-4 y w l k = record { not = λ _ x. behind-4 w l k x ∙ rw y; past = λ v. absurd (omega arith); meets = λ v. absurd (omega arith) }
+    addresses-4 y w l k = record { not = λ _ x. behind-4 w l k x ∙ rw y; past = λ v. absurd (omega arith); calls = λ v. absurd (omega arith) }
 
     pub addresses-0 : (p ≡ none → ⊥) → Addresses d b n (addressAs 0 p)
     addresses-0 y w l k = record {
       not = λ v. absurd (v refl);
       past = λ _ x. behind-4 w l k x ∙ rw (ne-eqb p none y);
-      meets = λ _. record { stands = k; busy = naming-busy (shown d b w l) n (sym (e w l k) ∙ z); at = there w l; known = y };
+      calls = λ _. record { stands = k; busy = naming-busy (shown d b w l) n (sym (e w l k) ∙ z); at = there w l; known = y };
     }
 
 -- ---- where it lives
 
-pub met-place : {d : Desk} {b w l : List ℕ} {n p : ℕ} → Meets d b w l n p → p < places
+pub met-place : {d : Desk} {b w l : List ℕ} {n p : ℕ} → CallsOn d b w l n p → p < places
 met-place {d} {b} {w} {l} {n} {p} k =
     let m = shown d b w l in
     subst (λ (x : ℕ). x < places) (k .at) (small m (sounds (k .stands)) (placeOf m n) (placed m n (λ z. k .known (sym (k .at) ∙ z)) .0))

@@ -12,7 +12,7 @@ use Rattle.rules.specs.Model.{places, lineCount, Thread, vacant, Model, thread}
 use Rattle.rules.specs.Rules.{put, stands, told, relined, join, leave}
 use Rattle.table.specs.Cells.{threadOf, modelOf, shown, Whole}
 use Rattle.table.specs.Rows.{thread-at, line-at}
-use Rattle.table.specs.Stores.{Stood, Told, Wrote}
+use Rattle.table.specs.Stores.{Stood, Told, Stored}
 use Rattle.table.specs.Stores as Stores
 use Rattle.table.specs.declared.Desk.{Desk}
 
@@ -57,7 +57,7 @@ abbrev modelAs : ℕ → ℕ → List Thread → List (List ℕ) → Model
 modelAs y x ts ls = record { last = y; running = x; threads = ts; lines = ls }
 
 module _ {b w l : List ℕ} (k : Whole b w l) {p : ℕ} (h : p < places) {b′ w′ : List ℕ} where
-  pub wrote : {f : Thread → Thread} → Wrote b w p f b′ w′ → Steps b w l b′ w′ l (changing p f)
+  pub wrote : {f : Thread → Thread} → Stored b w p f b′ w′ → Steps b w l b′ w′ l (changing p f)
   wrote {f} e = record {
     whole = record { blocks = e .blocks; words = e .words; lines = k .lines };
     seen = λ y x. ap (λ (ts : List Thread). modelAs y x ts (tab lineCount (lineOf places l)))

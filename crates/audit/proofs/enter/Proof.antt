@@ -37,8 +37,7 @@ returns-2 : tie.Need-returns-2
 returns-2 c =
     let at-wide = c .before .before in
     let at-if1 = at-wide .before .before in
-    let at-before = at-if1 .before .before in
-    let f = at-before .before in
+    let f = at-if1 .before .before .before in
     let e = at-wide .wide .ensures in
     tells-no (enter-taken (f .pre .1) (f .pre .0) (ap not (ne-eqb _ _ (at-if1 .if1 .left))) (omega arith) (rw (e .0) at (c .if2 .taken)))
 
@@ -49,8 +48,7 @@ returns-3 : tie.Need-returns-3
 returns-3 c =
     let at-wide = c .before .before in
     let at-if1 = at-wide .before .before in
-    let at-before = at-if1 .before .before in
-    let f = at-before .before in
+    let f = at-if1 .before .before .before in
     let e = at-wide .wide .ensures in
     tells-yes (rw (e .0) (enter-new (f .pre .1) (f .pre .0) (ap not (ne-eqb _ _ (at-if1 .if1 .left))) (omega arith) (rw (e .0) at (c .if2 .left))))
 

@@ -44,9 +44,9 @@ loop-less c = search needs
 loop-again : tie.Need-loop-again Inv-loop μ-loop
 loop-again c =
     let at-loop-test = c .before .before in
-    let at-before = at-loop-test .before in
-    let f = at-before .before in
-    let w = at-before .loop in
+    let at-loop = at-loop-test .before in
+    let f = at-loop .before in
+    let w = at-loop .loop in
     let h = at-loop-test .loop-test .taken in (
       omega arith,
       rw add-one (⊎-elim

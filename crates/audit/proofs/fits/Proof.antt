@@ -21,8 +21,7 @@ returns-2 c =
     let at-as-table = c .before .before in
     let at-is-answer = at-as-table .before in
     let at-if1 = at-is-answer .before .before in
-    let at-before = at-if1 .before in
-    let f = at-before .before in
+    let f = at-if1 .before .before in
     rw (ne-eqb (f .args .t .standing) 0 (at-if1 .if1 .left), ← at-as-table .as-table .ensures, ← at-is-answer .is-answer .ensures)
 
 pub fits-spec : {M : Type 1} → statement M

@@ -36,10 +36,10 @@ returns-6 c = rw (c .before .if5 .taken, ← c .before .before .before .before .
 returns-7 : tie.Need-returns-7
 returns-7 c =
     let at-if2 = c .before .before .before .before in
-    let at-before = at-if2 .before in
-    let f = at-before .before in
+    let at-if1 = at-if2 .before in
+    let f = at-if1 .before in
     let st = f .args .t .standing in
-    rw (ne-eqb st 2 (at-before .if1 .left), ne-eqb st 6 (at-if2 .if2 .left), ne-eqb st 3 (c .before .if3 .left), ne-eqb st 4 (c .if5 .left))
+    rw (ne-eqb st 2 (at-if1 .if1 .left), ne-eqb st 6 (at-if2 .if2 .left), ne-eqb st 3 (c .before .if3 .left), ne-eqb st 4 (c .if5 .left))
 
 pub home-spec : {M : Type 1} → statement M
 home-spec =

@@ -6,12 +6,12 @@ use borrow.Author.Needs.{needs}
 use Rattle.lists.specs.Tells.{tells-yes, tells-no}
 use borrow.Author.Tests.{not-true, not-false}
 use Rattle.rules.specs.Model.{places}
-use Rattle.audit.specs.Loops.{Entered}
+use Rattle.audit.specs.Loops.{Indexed}
 use Rattle.audit.proofs.index.Statement.{statement}
 use Rattle.audit.proofs.index.Tie as tie
 
 abbrev Inv-loop : tie.InvT-loop
-Inv-loop b who₀ p₀ who p = (p ≤ places) × Entered b who p
+Inv-loop b who₀ p₀ who p = (p ≤ places) × Indexed b who p
 
 abbrev μ-loop : tie.MeasureT-loop
 μ-loop b who₀ p₀ who p = places - p

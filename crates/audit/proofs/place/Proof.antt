@@ -42,9 +42,9 @@ returns c =
     let at-fits2 = c .before .before in
     let at-home = at-fits2 .before in
     let at-wide = at-home .before .before .before .before in
-    let at-before = at-wide .before in
-    let f = at-before .before in
-    let t = at-before .read in
+    let at-read = at-wide .before in
+    let f = at-read .before in
+    let t = at-read .read in
     seat-test (modelOf 0 (f .args .running .0) (f .args .b .now) (f .args .w .now) []) (f .args .at .now) (f .args .who .now) (f .args .p .0) _ _
     (asThread (t .result)) _ _ _
     (t .ensures ∙ sym (thread-at 0 (f .args .running .0) (f .args .b .now) (f .args .w .now) [] (f .args .p .0) (f .pre)))

@@ -14,9 +14,8 @@ first-requires c κs = search needs
 returns-2 : tie.Need-returns-2
 returns-2 c =
     let at-if1 = c .before .before in
-    let at-before = at-if1 .before in
     λ w.
-    let f = at-before .before in
+    let f = at-if1 .before .before in
     let a = f .args in
     desk-idle (a .d .last .0) (a .d .running .0) (a .b .now) w (a .l .now) (omega (arith, at-if1 .if1 .left)) (f .pre) (c .before .if2 .taken)
     (c .first .result) (c .first .ensures)

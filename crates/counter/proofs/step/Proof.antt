@@ -38,7 +38,7 @@ use denote.Triple.Table.{entered, cited}
 use denote.Triple.Walked.{says, Stays, stay-none, walkOf, goes-none, Walks, ends-at, walked, walk-meets}
 use denote.Exit.{yes}
 use Rattle.rules.specs.Rules.{successor}
-use Rattle.counter.specs.Step.{Steps}
+use Rattle.counter.specs.Step.{Advances}
 use Rattle.counter.specs.declared.Counter.{Counter}
 use Rattle.rules.specs.declared.Number.{Number}
 use Rattle.counter.proofs.Counter as T
@@ -138,8 +138,8 @@ module _ {M : Type 1} (𝓤 : URA M) (H : Heap 𝓤) (A : Atoms 𝓤) (W : Given
         calls-at ! fm (Next 𝓤 H A at-mem run) known (to l₂ ν δ) (and-then ! (load ! (from ! (stop !)) (look ! 2 refl)) (no-more !)) (λ v.
         use1 W (later (some (λ (r : Number). ((‵ (flft (ν ∷ []) fullShare) ⊛ ‵ ftrue) ⊛ ‵ (N.the-row .own r (v ∷ []))) ⊛ raw (ensured 𝓤 H A next.ended (next.clauses 𝓤 H A at-mem run) (ν ∷ [], tt) (x l₂ δ, tt) tt r)))) (id⊢ 𝓤 _) $ await ! tt $ pick ! (λ r.
         -- what `next` ensures, at some last counter
-        split ! $ move ! (1 ∷ []) $ use1 W (some (λ (zs : Counter × Unit {0}). ‵ (lasts next.ended (ν ∷ [], tt) (x l₂ δ, tt) zs) ⊛ raw (fact 𝓤 (Steps (h n) (zs .0) r)))) (id⊢ 𝓤 _) $ pick ! (λ zs.
-        split ! $ move ! (1 ∷ []) $ heard ! (Steps (h n) (zs .0) r) (λ e. fsplit ! $
+        split ! $ move ! (1 ∷ []) $ use1 W (some (λ (zs : Counter × Unit {0}). ‵ (lasts next.ended (ν ∷ [], tt) (x l₂ δ, tt) zs) ⊛ raw (fact 𝓤 (Advances (h n) (zs .0) r)))) (id⊢ 𝓤 _) $ pick ! (λ zs.
+        split ! $ move ! (1 ∷ []) $ heard ! (Advances (h n) (zs .0) r) (λ e. fsplit ! $
         move ! (2 ∷ []) $ split ! $ move ! (1 ∷ []) $ peeks ! N.the-row (Is N.the-row) (shows 𝓤 H A N.the-row) r (v ∷ []) (λ is.
         land ! (from ! (stop !)) (init ! 7 refl (LL.lawful N.the-type N′.the-laws 𝓤 H A W .typed r _ is .0)) $ drop ! $ split ! $
         -- the lifetime is ended, and the local comes back at the last counter

@@ -32,9 +32,9 @@ returns : tie.Need-returns Inv-loop μ-loop
 returns c =
     let at-if1 = c .before .before in
     let at-loop-test = at-if1 .before .before in
-    let at-before = at-loop-test .before in
-    let f = at-before .before in
-    tells-no λ z. bad-bare (f .pre) (omega arith) (at-before .loop .p) (at-loop-test .loop-test .taken) (at-if1 .if1 .taken) (c .if2 .taken) z
+    let at-loop = at-loop-test .before in
+    let f = at-loop .before in
+    tells-no λ z. bad-bare (f .pre) (omega arith) (at-loop .loop .p) (at-loop-test .loop-test .taken) (at-if1 .if1 .taken) (c .if2 .taken) z
 
 add-p : tie.Need-add-p Inv-loop μ-loop
 add-p c = search needs

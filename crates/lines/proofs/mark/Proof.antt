@@ -43,9 +43,9 @@ wide-requires c κs = search needs
 returns : tie.Need-returns Inv-loop μ-loop
 returns c =
     let at-if1 = c .before .before .before in
-    let at-before = at-if1 .before .before in
-    let f = at-before .before in
-    let w = at-before .loop in
+    let at-loop = at-if1 .before .before in
+    let f = at-loop .before in
+    let w = at-loop .loop in
     tells-no λ z. bad-high (w .inv .1) (f .pre .0) (omega arith) (omega arith) z (at-if1 .if1 .taken) (omega (arith, c .before .wide .ensures))
 
 element-copy-out-if3 : tie.Need-element-copy-out-if3 Inv-loop μ-loop
@@ -55,9 +55,9 @@ returns-2 : tie.Need-returns-2 Inv-loop μ-loop
 returns-2 c =
     let at-wide = c .before .before .before in
     let at-if1 = at-wide .before .before in
-    let at-before = at-if1 .before .before in
-    let f = at-before .before in
-    let w = at-before .loop in
+    let at-loop = at-if1 .before .before in
+    let f = at-loop .before in
+    let w = at-loop .loop in
     let e = at-wide .wide .ensures in
     tells-no λ z. bad-twice (w .inv .1) (f .pre .0) (omega arith) (omega arith) z (at-if1 .if1 .taken) (omega arith) (rw e at (c .if3 .taken))
 

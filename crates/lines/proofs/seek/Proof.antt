@@ -64,9 +64,9 @@ loop-again : tie.Need-loop-again Inv-loop μ-loop
 loop-again c =
     let at-if2 = c .before .before in
     let at-if1 = at-if2 .before .before in
-    let at-before = at-if1 .before .before in
-    let f = at-before .before in
-    let w = at-before .loop in
+    let at-loop = at-if1 .before .before in
+    let f = at-loop .before in
+    let w = at-loop .loop in
     rw (c .wide .ensures) (walked-on (f .pre .0) (f .pre .1) (omega arith) (w .inv) (at-if1 .if1 .taken) (at-if2 .if2 .left))
 
 returns-2 : tie.Need-returns-2 Inv-loop μ-loop

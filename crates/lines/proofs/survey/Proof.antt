@@ -3,7 +3,7 @@ use Prim.Native.Nat.{_≤_, _-_}
 use mathlib.Core.Path.{_≡_, refl}
 use native.Mathlib.Omega.{arith}
 use borrow.Author.Needs.{needs}
-use Rattle.lines.specs.Steps.{Done}
+use Rattle.lines.specs.Steps.{DoneUpTo}
 use Rattle.lists.specs.Tells.{tells-no}
 use Rattle.lines.specs.Test.{done-none}
 use borrow.Author.Tests.{not-true, not-false}
@@ -12,7 +12,7 @@ use Rattle.lines.proofs.survey.Statement.{statement}
 use Rattle.lines.proofs.survey.Tie as tie
 
 abbrev Inv-loop : tie.InvT-loop
-Inv-loop l at₀ q₀ at q = (q ≤ lineCount) × Done places lineCount l at q
+Inv-loop l at₀ q₀ at q = (q ≤ lineCount) × DoneUpTo places lineCount l at q
 
 abbrev μ-loop : tie.MeasureT-loop
 μ-loop l at₀ q₀ at q = lineCount - q

@@ -26,10 +26,10 @@ count-requires c κs = search needs
 
 returns-2 : tie.Need-returns-2
 returns-2 c =
-    let at-before = c .before .before in
-    let f = at-before .before in
+    let at-if1 = c .before .before in
+    let f = at-if1 .before in
     let a = f .args in
-    λ w. choose-halt (a .d) (a .b .now) w (a .l .now) (at-before .if1 .left) (c .before .count .result) (c .before .count .ensures (standsAt (a .b .now)) (f .pre .filled)) (c .if2 .taken)
+    λ w. choose-halt (a .d) (a .b .now) w (a .l .now) (at-if1 .if1 .left) (c .before .count .result) (c .before .count .ensures (standsAt (a .b .now)) (f .pre .filled)) (c .if2 .taken)
 
 first-requires : tie.Need-first-requires
 first-requires c κs = (c .before .before .before .pre .lines, omega arith)
@@ -38,19 +38,19 @@ returns-3 : tie.Need-returns-3
 returns-3 c =
     let at-if2 = c .before .before in
     let at-count = at-if2 .before in
-    let at-before = at-count .before in
-    let f = at-before .before in
+    let at-if1 = at-count .before in
+    let f = at-if1 .before in
     let a = f .args in
-    λ w. choose-stuck (a .d) (a .b .now) w (a .l .now) (at-before .if1 .left) (at-count .count .result) (at-count .count .ensures (standsAt (a .b .now)) (f .pre .filled)) (at-if2 .if2 .left) (f .pre .lines) (c .before .first .result) (c .before .first .ensures) (c .if3 .taken)
+    λ w. choose-stuck (a .d) (a .b .now) w (a .l .now) (at-if1 .if1 .left) (at-count .count .result) (at-count .count .ensures (standsAt (a .b .now)) (f .pre .filled)) (at-if2 .if2 .left) (f .pre .lines) (c .before .first .result) (c .before .first .ensures) (c .if3 .taken)
 
 returns-4 : tie.Need-returns-4
 returns-4 c =
     let at-if2 = c .before .before in
     let at-count = at-if2 .before in
-    let at-before = at-count .before in
-    let f = at-before .before in
+    let at-if1 = at-count .before in
+    let f = at-if1 .before in
     let a = f .args in
-    λ w. choose-wait (a .d) (a .b .now) w (a .l .now) (at-before .if1 .left) (at-count .count .result) (at-count .count .ensures (standsAt (a .b .now)) (f .pre .filled)) (at-if2 .if2 .left) (f .pre .lines) (c .before .first .result) (c .before .first .ensures) (c .if3 .left)
+    λ w. choose-wait (a .d) (a .b .now) w (a .l .now) (at-if1 .if1 .left) (at-count .count .result) (at-count .count .ensures (standsAt (a .b .now)) (f .pre .filled)) (at-if2 .if2 .left) (f .pre .lines) (c .before .first .result) (c .before .first .ensures) (c .if3 .left)
 
 pub choose-spec : {M : Type 1} → statement M
 choose-spec =

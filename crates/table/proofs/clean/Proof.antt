@@ -17,8 +17,7 @@ returns : tie.Need-returns
 returns c =
     let at-stand = c .before .before .before in
     let at-name = at-stand .before .before .before in
-    let at-before = at-name .before in
-    let f = at-before .before in
+    let f = at-name .before .before in
     cleaned (f .pre .0) (f .pre .1) (at-name .name .ensures) (at-stand .stand .ensures) (c .tell .ensures)
 
 pub clean-spec : {M : Type 1} → statement M

@@ -27,8 +27,7 @@ element-copy-out-partner c = search needs
 returns-2 : tie.Need-returns-2
 returns-2 c =
     let at-if1 = c .before .before in
-    let at-before = at-if1 .before .before in
-    let f = at-before .before in
+    let f = at-if1 .before .before .before in
     rw (eq-eqb (getD (f .args .b .now) (cell 1 (f .args .p .0)) 0) 5 (at-if1 .if1 .left))
 
 pub listens-spec : {M : Type 1} → statement M

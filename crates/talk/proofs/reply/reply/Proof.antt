@@ -26,14 +26,14 @@ number-of-requires c κs =
     let at-if1 = c .before .before .before in
     let at-whom = at-if1 .before .before in
     let start = at-whom .before .before in
-    caller-place (start .pre) (at-whom .whom .ensures _ _ (start .pre) .meets (omega (arith, at-if1 .if1 .left)) .busy)
+    caller-place (start .pre) (at-whom .whom .ensures _ _ (start .pre) .calls (omega (arith, at-if1 .if1 .left)) .busy)
 
 awaits-requires : tie.Need-awaits-requires
 awaits-requires c κs =
     let at-if1 = c .before .before .before .before .before in
     let at-whom = at-if1 .before .before in
     let start = at-whom .before .before in
-    met-place (at-whom .whom .ensures _ _ (start .pre) .meets (omega (arith, at-if1 .if1 .left)))
+    met-place (at-whom .whom .ensures _ _ (start .pre) .calls (omega (arith, at-if1 .if1 .left)))
 
 answer-requires-2 : tie.Need-answer-requires-2
 answer-requires-2 c κs = search needs
@@ -54,7 +54,7 @@ hand-over-requires c κs =
     let at-if1 = c .before .before .before .before .before .before .before .before .before .before in
     let at-whom = at-if1 .before .before in
     let start = at-whom .before .before in
-    at-whom .whom .ensures _ _ (start .pre) .meets (omega (arith, at-if1 .if1 .left))
+    at-whom .whom .ensures _ _ (start .pre) .calls (omega (arith, at-if1 .if1 .left))
 
 answer-requires-3 : tie.Need-answer-requires-3
 answer-requires-3 c κs = search needs

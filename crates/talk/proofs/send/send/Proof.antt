@@ -24,7 +24,7 @@ deliver-requires c κs =
     let at-if1 = c .before .before .before .before in
     let at-whom = at-if1 .before .before in
     let start = at-whom .before .before in
-    at-whom .whom .ensures _ _ (start .pre) .meets (omega (arith, at-if1 .if1 .left))
+    at-whom .whom .ensures _ _ (start .pre) .calls (omega (arith, at-if1 .if1 .left))
 
 answer-requires-2 : tie.Need-answer-requires-2
 answer-requires-2 c κs = search needs
