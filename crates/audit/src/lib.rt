@@ -17,7 +17,6 @@ use lines::NONE;
 use lines::PLACES;
 use rules::AWAITING;
 use rules::EMPTY;
-use rules::ENDED;
 use rules::LAST_NUMBER;
 use rules::NOBODY;
 use rules::Number;
@@ -27,6 +26,7 @@ use rules::RECEIVING;
 use rules::RUNNING;
 use rules::SENDING;
 use rules::WAITING;
+use rules::codes;
 use table::Blocks;
 use table::Desk;
 use table::Thread;
@@ -80,7 +80,7 @@ fn as_table(standing: u8, partner: Number, word: u32) -> bool
 fn is_answer(code: u8, who: Number, word: u32) -> bool
     ensures { λ r. ⌜ r ≡ isAnswer code (who .0) word ⌝ }
 {
-    ((code == 0) | (code == ENDED)) & (who.0 <= LAST_NUMBER)
+    ((code == codes::DONE) | (code == codes::ENDED)) & (who.0 <= LAST_NUMBER)
         | (code == 0) & ((who.0 == NOBODY) & (word == 0))
 }
 
@@ -194,7 +194,7 @@ fn enter(b: &Blocks, who: &mut [u8; ENTRIES], p: Place) -> bool
     true
 }
 
-// AllPass thread enters the index.
+// Every thread enters the index.
 fn index(b: &Blocks, who: &mut [u8; ENTRIES]) -> bool
     requires { ⌜ Indexed (now b) (now who) 0 ⌝ }
     ensures { λ r. ⌜ Tells r (Indexed (now (b .entry)) (now (who .exit)) places) (Twice (now (b .entry))) ⌝ }

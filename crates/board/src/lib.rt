@@ -13,13 +13,7 @@ use nucleus::State;
 use rules::Choice;
 use rules::Event;
 use rules::Number;
-
-// Document 01's codes: the buffer is too short; not exactly one record; the kind is not known.
-const SHORT: u8 = 7;
-
-const NOT_ONE: u8 = 12;
-
-const UNKNOWN: u8 = 13;
+use rules::codes;
 
 // What one record comes to: code, choice and next, the number given, and the new image's length.
 pub struct Told {
@@ -66,17 +60,17 @@ fn act(s: State, e: Event, out: &mut [u8]) -> Told
     ensures { λ r. ⌜ (r, now (out .exit)) ≡ actedOn (view s) (outcome e (view s)) (now (out .entry)) ⌝ }
 {
     let r = s.act(e);
-    if r.code != 0 {
+    if r.code != codes::DONE {
         return decline(r.code, s.choose());
     }
     let t = r.state;
     let saved = image::keep(t, out);
-    if saved.code != 0 {
-        return decline(SHORT, s.choose());
+    if saved.code != codes::DONE {
+        return decline(codes::SHORT, s.choose());
     }
     let x = r.choice;
     Told {
-        code: 0,
+        code: codes::DONE,
         choice: x.kind(),
         next: x.runs().0,
         number: r.number.0,
@@ -89,11 +83,11 @@ fn bad(got: Read) -> u8
     ensures { λ r. ⌜ r ≡ badCode got ⌝ }
 {
     match got {
-        Read::Record { event: _, next: _ } => NOT_ONE,
-        Read::AtEnd => NOT_ONE,
-        Read::CutShort => NOT_ONE,
-        Read::UnknownKind => UNKNOWN,
-        Read::PastEnd => NOT_ONE,
+        Read::Record { event: _, next: _ } => codes::CUT_SHORT,
+        Read::AtEnd => codes::CUT_SHORT,
+        Read::CutShort => codes::CUT_SHORT,
+        Read::UnknownKind => codes::UNKNOWN_KIND,
+        Read::PastEnd => codes::CUT_SHORT,
     }
 }
 
@@ -107,7 +101,7 @@ fn take(s: State, rec: &[u8], out: &mut [u8]) -> Told
         return decline(bad(got), s.choose());
     };
     if next != rec.len() {
-        return decline(NOT_ONE, s.choose());
+        return decline(codes::CUT_SHORT, s.choose());
     }
     act(s, event, out)
 }
@@ -116,7 +110,7 @@ fn step(image: &[u8], rec: &[u8], out: &mut [u8]) -> Told
     ensures { λ r. ⌜ Boards (now (image .entry)) (now (rec .entry)) (now (out .entry)) (r, now (out .exit)) ⌝ }
 {
     let from = image::load(image);
-    if from.code != 0 {
+    if from.code != codes::DONE {
         return decline(from.code, Choice::Halt);
     }
     let s = from.state;
@@ -182,13 +176,13 @@ fn play(s: State, log: &[u8], out: &mut [u8]) -> Brought
     ensures { λ r. ⌜ (r, now (out .exit)) ≡ replayOn (view s) (now (log .entry)) (now (out .entry)) ⌝ }
 {
     if logbook::LIMIT < log.len() {
-        return unplay(logbook::NO_ROOM, s.choose());
+        return unplay(codes::NO_ROOM, s.choose());
     }
     let r = logbook::replay(s, log);
     let last = r.state;
     let saved = image::keep(last, out);
-    if saved.code != 0 {
-        return unplay(SHORT, s.choose());
+    if saved.code != codes::DONE {
+        return unplay(codes::SHORT, s.choose());
     }
     let x = r.choice;
     Brought {
@@ -205,7 +199,7 @@ fn bring(image: &[u8], log: &[u8], out: &mut [u8]) -> Brought
     ensures { λ r. ⌜ Brings (now (image .entry)) (now (log .entry)) (now (out .entry)) (r, now (out .exit)) ⌝ }
 {
     let from = image::load(image);
-    if from.code != 0 {
+    if from.code != codes::DONE {
         return unplay(from.code, Choice::Halt);
     }
     let s = from.state;

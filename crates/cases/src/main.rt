@@ -38,18 +38,12 @@ fn thread(s: State, p: Place) {
     let t = s.thread(p);
     let a = t.answer;
     console::text(b"    place ");
-    console::number(p.0 as u64);
-    console::text(b": thread ");
-    console::number(t.number.0 as u64);
-    console::text(b" stands ");
-    console::number(t.standing as u64);
-    console::text(b", answer ");
-    console::number(a.code as u64);
-    console::text(b" ");
-    console::number(a.who.0 as u64);
-    console::text(b" ");
-    console::number(a.word as u64);
-    console::text(b"\n");
+    console::say(p.0 as u64, b": thread ");
+    console::say(t.number.0 as u64, b" stands ");
+    console::say(t.standing as u64, b", answer ");
+    console::say(a.code as u64, b" ");
+    console::say(a.who.0 as u64, b" ");
+    console::say(a.word as u64, b"\n");
 }
 
 fn fresh() {
@@ -131,8 +125,7 @@ fn fills() {
     }
     let s = line(b"create with 32 live", s.create(), Place(31));
     console::text(b"    live: ");
-    console::number(s.live() as u64);
-    console::text(b"\n");
+    console::say(s.live() as u64, b"\n");
 }
 
 // Two creates, a receive and a send; the same cut inside the send; and a kind that is not known.
@@ -150,12 +143,9 @@ fn replayed(what: &[u8], log: &[u8]) {
     let choice = r.choice;
     console::text(what);
     console::text(b": ");
-    console::number(r.code as u64);
-    console::text(b", records ");
-    console::number(r.records as u64);
-    console::text(b", bytes ");
-    console::number(r.bytes as u64);
-    console::text(b", ");
+    console::say(r.code as u64, b", records ");
+    console::say(r.records as u64, b", bytes ");
+    console::say(r.bytes as u64, b", ");
     console::choice(choice);
     console::text(b"\n");
 }

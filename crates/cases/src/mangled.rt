@@ -119,15 +119,12 @@ fn tried(what: &[u8], s: State) {
 // What the operations that only look give.
 fn looked(s: State) {
     console::text(b": consistent ");
-    console::number(s.consistent() as u64);
-    console::text(b", ");
+    console::say(s.consistent() as u64, b", ");
     console::choice(s.choice());
     console::text(b", live ");
-    console::number(s.live() as u64);
-    console::text(b", empty place ");
+    console::say(s.live() as u64, b", empty place ");
     let p = s.empty_place();
-    console::number(p.0 as u64);
-    console::text(b", thread");
+    console::say(p.0 as u64, b", thread");
     fields(s.thread(Place(0)));
     console::text(b"\n");
 }
@@ -225,7 +222,7 @@ fn replayed(s: State) -> bool {
 // The code of an operation, and whether it refused: with 14, and in all else as it is to. One that did not is marked.
 fn told(code: u8, quiet: bool) -> bool {
     field(code as u64);
-    if quiet & (code == nucleus::INCONSISTENT) {
+    if quiet & (code == rules::codes::INCONSISTENT) {
         return true;
     }
     console::text(b"!");

@@ -22,6 +22,12 @@ pub fn number(n: u64) {
     io::print_decimal(STDOUT_FILENO, n);
 }
 
+// A number, and the text behind it.
+pub fn say(n: u64, behind: &[u8]) {
+    number(n);
+    text(behind);
+}
+
 // Bytes, two hexadecimal digits each.
 pub fn hex(b: &[u8]) {
     let mut i = 0;
@@ -66,12 +72,10 @@ pub fn choice(c: Choice) {
 
 // `CODE CHOICE NUMBER`, and the line's end.
 pub fn answer(code: u8, c: Choice, n: Number) {
-    number(code as u64);
-    text(b" ");
+    say(code as u64, b" ");
     choice(c);
     text(b" ");
-    number(n.0 as u64);
-    text(b"\n");
+    say(n.0 as u64, b"\n");
 }
 
 // What was read: so many bytes, at the start of the buffer. Where reading failed there are none, and that has been said.

@@ -20,7 +20,7 @@ pub fn successor(n: Number) -> Number
     Number(0)
 }
 
-// Advances the counter lent, and gives the number stepped to. The one before is in use, or was.
+// Advances the counter lent, and gives the number that it comes to. The one before is in use, or was.
 pub fn next(c: &mut Counter) -> Number
     ensures { λ r. ⌜ Advances (now (c .entry)) (now (c .exit)) r ⌝ }
 {

@@ -9,10 +9,7 @@ mod look;
 
 pub use loading::Loaded;
 pub use loading::load;
-pub use saving::DONE;
-pub use saving::INCONSISTENT;
 pub use saving::LONGEST;
-pub use saving::SHORT;
 pub use saving::Saved;
 pub use saving::keep;
 pub use saving::save;

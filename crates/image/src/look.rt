@@ -7,10 +7,8 @@ ghost use Rattle.image.specs.Locates.{Locates, EntryFor};
 use super::Part;
 use loading::bytes;
 use rules::Number;
+use rules::codes;
 use saving::format;
-
-// Document 01's code for a number that is not live.
-const NOT_LIVE: u8 = 4;
 
 // The entry of the number n, or the live count where it has none.
 fn find(image: &[u8], n: Number) -> usize
@@ -37,7 +35,7 @@ fn body(image: &[u8], i: usize) -> Part
     let from = bytes::two(image, entry + format::OFFSET_AT);
     let inbox = bytes::wide(bytes::at(image, from + format::INBOX_LENGTH_AT));
     Part {
-        code: 0,
+        code: codes::DONE,
         offset: from,
         length: format::BODY + inbox,
     }
@@ -49,7 +47,7 @@ pub fn part_of(image: &[u8], n: Number) -> Part
 {
     let loaded = loading::load(image);
     let code = loaded.code;
-    if code != 0 {
+    if code != codes::DONE {
         return Part {
             code: code,
             offset: 0,
@@ -59,7 +57,7 @@ pub fn part_of(image: &[u8], n: Number) -> Part
     let i = find(image, n);
     if i >= bytes::wide(bytes::at(image, format::LIVE_AT)) {
         return Part {
-            code: NOT_LIVE,
+            code: codes::NOT_LIVE,
             offset: 0,
             length: 0,
         };

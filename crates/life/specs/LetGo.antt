@@ -22,7 +22,7 @@ use Rattle.verbs.specs.Steps.{Steps}
 use Rattle.verbs.specs.Caller.{loose}
 use Rattle.life.specs.HandBack.{backs}
 
--- Sound, with somebody or nobody running and some number last: what a helper asks for that does not see the desk
+-- Sound, with somebody or nobody running and some number last: what an inner function asks for that does not see the desk
 pub record SoundOn (b w l : List ℕ) : Type 0 where
   pub last : ℕ
   pub running : ℕ

@@ -11,6 +11,7 @@ use events::answer;
 use lines::Links;
 use rules::Number;
 use rules::Place;
+use rules::codes;
 use table::Blocks;
 use table::Desk;
 use table::Words;
@@ -22,12 +23,12 @@ pub fn wait_clock(b: &mut Blocks, w: &mut Words, l: &mut Links, d: Desk) -> Outc
 {
     let p = d.running;
     if p.0 == lines::NONE {
-        return answer(verbs::IDLE, d);
+        return answer(codes::IDLE, d);
     }
     table::stand(b, w, p, rules::WAITING, Number(rules::NOBODY), 0);
     lines::join(l, table::CLOCK_LINE, p.0);
     let e = verbs::turn_to(d, Place(lines::NONE));
-    answer(verbs::DONE, e)
+    answer(codes::DONE, e)
 }
 
 // 7. The running thread goes to the back of ready. With none running, nothing changes.
@@ -37,11 +38,11 @@ pub fn slice_end(b: &mut Blocks, w: &mut Words, l: &mut Links, d: Desk) -> Outco
 {
     let p = d.running;
     if p.0 == lines::NONE {
-        return answer(verbs::DONE, d);
+        return answer(codes::DONE, d);
     }
     verbs::ready(b, w, l, p);
     let e = verbs::turn_to(d, Place(lines::NONE));
-    answer(verbs::DONE, e)
+    answer(codes::DONE, e)
 }
 
 // Wakes the first clock waiter. False where nobody waits for the clock.
@@ -75,5 +76,5 @@ pub fn tick(b: &mut Blocks, w: &mut Words, l: &mut Links, d: Desk) -> Outcome
     ensures { λ r. ⌜ Did d (now (b .entry)) (now (w .entry)) (now (l .entry)) Tick r (now (b .exit)) (now (w .exit)) (now (l .exit)) ⌝ }
 {
     ring_all(b, w, l);
-    answer(verbs::DONE, d)
+    answer(codes::DONE, d)
 }

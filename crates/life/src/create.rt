@@ -9,6 +9,7 @@ use events::answer;
 use lines::Links;
 use rules::Number;
 use rules::Place;
+use rules::codes;
 use table::Blocks;
 use table::Desk;
 use table::Words;
@@ -40,7 +41,7 @@ pub fn create(b: &mut Blocks, w: &mut Words, l: &mut Links, d: Desk) -> Outcome
     ensures { λ r. ⌜ Did d (now (b .entry)) (now (w .entry)) (now (l .entry)) Create r (now (b .exit)) (now (w .exit)) (now (l .exit)) ⌝ }
 {
     if filled::count(d.filled) == lines::PLACES as u8 {
-        return answer(verbs::FULL, d);
+        return answer(codes::FULL, d);
     }
     let p = filled::lowest(d.filled);
     let last = d.last;
@@ -54,7 +55,7 @@ pub fn create(b: &mut Blocks, w: &mut Words, l: &mut Links, d: Desk) -> Outcome
         running: running,
     };
     Outcome {
-        code: verbs::DONE,
+        code: codes::DONE,
         desk: e,
         number: n,
     }

@@ -19,6 +19,7 @@ use events::answer;
 use lines::Links;
 use rules::Number;
 use rules::Place;
+use rules::codes;
 use table::Blocks;
 use table::Desk;
 use table::Words;
@@ -30,7 +31,7 @@ fn give_back(b: &mut Blocks, w: &mut Words, l: &mut Links, n: Number, p: Place)
     ensures { λ r. ⌜ Steps (now (b .entry)) (now (w .entry)) (now (l .entry)) (now (b .exit)) (now (w .exit)) (now (l .exit)) (backs (n .0) (p .0)) ⌝ }
 {
     let word = table::word_of(w, p);
-    verbs::wake(b, w, l, p, rules::ENDED, n, word);
+    verbs::wake(b, w, l, p, codes::ENDED, n, word);
 }
 
 // The first in line q, the inbox of the thread n that ends, gets its own word back. False where nobody stands there.
@@ -135,11 +136,11 @@ pub fn end(b: &mut Blocks, w: &mut Words, l: &mut Links, d: Desk, n: Number) -> 
     ensures { λ r. ⌜ Did d (now (b .entry)) (now (w .entry)) (now (l .entry)) (End n) r (now (b .exit)) (now (w .exit)) (now (l .exit)) ⌝ }
 {
     if n.0 > rules::LAST_NUMBER {
-        return answer(verbs::NO_NUMBER, d);
+        return answer(codes::NO_NUMBER, d);
     }
     let p = find(b, n);
     if p.0 == lines::NONE {
-        return answer(verbs::NOT_LIVE, d);
+        return answer(codes::NOT_LIVE, d);
     }
     let e = end_at(b, w, l, d, n, p);
     let x = filled::less(e.filled, p.0);
@@ -150,5 +151,5 @@ pub fn end(b: &mut Blocks, w: &mut Words, l: &mut Links, d: Desk, n: Number) -> 
         last: last,
         running: running,
     };
-    answer(verbs::DONE, f)
+    answer(codes::DONE, f)
 }

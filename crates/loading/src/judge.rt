@@ -11,29 +11,23 @@ use super::Loaded;
 use super::bytes;
 use super::read;
 use nucleus::State;
+use rules::codes;
 use saving::format;
-
-// Document 01's codes: too short, or a length field that is not the length; another edition; the image of no consistent state.
-const LENGTH: u8 = 8;
-
-const UNKNOWN: u8 = 9;
-
-const FOREIGN: u8 = 10;
 
 // The code that the head alone calls for, 0 where it calls for none.
 pub fn head_code(image: &[u8]) -> u8
     ensures { λ r. ⌜ r ≡ headCode (now (image .entry)) ⌝ }
 {
     if image.len() < format::HEAD {
-        return LENGTH;
+        return codes::WRONG_LENGTH;
     }
     if bytes::at(image, format::EDITION_AT) != format::EDITION {
-        return UNKNOWN;
+        return codes::UNKNOWN_EDITION;
     }
     if bytes::two(image, format::TOTAL_AT) != image.len() {
-        return LENGTH;
+        return codes::WRONG_LENGTH;
     }
-    0
+    codes::DONE
 }
 
 // A refusal, which gives the fresh state.
@@ -85,10 +79,13 @@ pub fn judge(image: &[u8]) -> Loaded
 {
     let s = read::candidate(image);
     if !s.consistent() {
-        return refuse(FOREIGN);
+        return refuse(codes::FOREIGN);
     }
     if !same(image, s) {
-        return refuse(FOREIGN);
+        return refuse(codes::FOREIGN);
     }
-    Loaded { code: 0, state: s }
+    Loaded {
+        code: codes::DONE,
+        state: s,
+    }
 }

@@ -1,6 +1,7 @@
 // Loading: the state of which any bytes are the image, or the code of why there is none.
 ghost use Rattle.loading.specs.Loads.{Loads};
 use nucleus::State;
+use rules::codes;
 
 pub mod bytes;
 mod judge;
@@ -17,7 +18,7 @@ pub fn load(image: &[u8]) -> Loaded
     ensures { λ r. ⌜ Loads (now (image .entry)) r ⌝ }
 {
     let code = judge::head_code(image);
-    if code != 0 {
+    if code != codes::DONE {
         return judge::refuse(code);
     }
     judge::judge(image)

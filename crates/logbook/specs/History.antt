@@ -29,7 +29,7 @@ use Rattle.logbook.specs.declared.Recorded.{Recorded}
 use Rattle.logbook.specs.declared.Replayed.{Replayed}
 
 -- ---- recording, event after event
--- Each where the one before ended. An event that is refused with 11 or 14 is no session-back; every other is, also one that the rules refuse.
+-- Each where the one before ended. An event that is refused with 11 or 14 is no history; every other is, also one that the rules refuse.
 pub data Session : State → List ℕ → ℕ → List Event → State → List ℕ → ℕ → Type 0 where
   over : {s : State} {log : List ℕ} {at : ℕ} → Session s log at [] s log at
   recorded : {s t : State} {log log′ end : List ℕ} {at q : ℕ} {e : Event} {es : List Event} {r : Recorded} → Records s log at e r log′
@@ -37,7 +37,7 @@ pub data Session : State → List ℕ → ℕ → List Event → State → List 
   dropped : {s t : State} {log log′ end : List ℕ} {at q : ℕ} {e : Event} {es : List Event} {r : Recorded} → Records s log at e r log′
       → (r .code ≡ 11) ⊎ (r .code ≡ 14) → Session (r .state) log′ (r .position) es t end q → Session s log at es t end q
 
--- What a session leaves: the state after its session-back; at the front of the buffer what stood there, and the log of the session-back, up to the last
+-- What a session leaves: the state after its history; at the front of the buffer what stood there, and the log of the history, up to the last
 -- position; and behind that position every byte as it was.
 pub record SessionLeaves (s : State) (log : List ℕ) (at : ℕ) (es : List Event) (t : State) (end : List ℕ) (q : ℕ) : Type 0 where
   pub state : Shows t (after es (view s))
@@ -173,7 +173,7 @@ pub record Holds (log : List ℕ) (q : ℕ) (es : List Event) : Type 0 where
 pub holds-none : (log : List ℕ) → Holds log 0 []
 holds-none log = record { bytes = refl; position = refl; within = omega arith; short = omega arith; fits = tt {0} }
 
--- Recording goes on where it ended: the log is then that of one session-back.
+-- Recording goes on where it ended: the log is then that of one history.
 pub holds-on : {s t : State} {log end : List ℕ} {at q : ℕ} {es fs : List Event} → Holds log at es → Consists s → Session s log at fs t end q → Holds end q (es ++ fs)
 holds-on {es = es} {fs = fs} H k z =
     let L = session-leaves k (H .within) (H .short) z in

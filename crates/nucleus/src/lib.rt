@@ -16,13 +16,11 @@ use rules::Choice;
 use rules::Event;
 use rules::Number;
 use rules::Place;
+use rules::codes;
 use table::Blocks;
 use table::Desk;
 use table::Thread;
 use table::Words;
-
-// The code where the state given is not consistent.
-pub const INCONSISTENT: u8 = 14;
 
 pub struct State {
     pub filled: u32,
@@ -189,7 +187,7 @@ impl State {
         if !self.consistent() {
             return Reply {
                 state: self,
-                code: INCONSISTENT,
+                code: codes::INCONSISTENT,
                 choice: Choice::Halt,
                 number: Number(rules::NOBODY),
             };

@@ -2,6 +2,9 @@
 ghost use mathlib.Core.Path.{_≡_};
 ghost use Rattle.rules.specs.Values.{kindOf, choiceKind, choiceRuns};
 
+pub mod codes;
+pub mod kinds;
+
 // A thread's number, 0 to 253. 255 is nobody, or anyone.
 pub struct Number(pub u8);
 
@@ -26,9 +29,6 @@ pub const AWAITING: u8 = 4;
 pub const RECEIVING: u8 = 5;
 
 pub const WAITING: u8 = 6;
-
-// The code of an answer to those whose receiver has ended. Every other answer has 0.
-pub const ENDED: u8 = 16;
 
 // What happens to the nucleus (document 01, "The eight events").
 pub enum Event {
@@ -56,14 +56,14 @@ impl Event {
         ensures { λ r. ⌜ r ≡ kindOf self ⌝ }
     {
         match self {
-            Event::Create => 1,
-            Event::Send { to: _, word: _ } => 2,
-            Event::Receive { from: _ } => 3,
-            Event::Reply { to: _, word: _ } => 4,
-            Event::End { thread: _ } => 5,
-            Event::WaitClock => 6,
-            Event::SliceEnd => 7,
-            Event::Tick => 8,
+            Event::Create => kinds::CREATE,
+            Event::Send { to: _, word: _ } => kinds::SEND,
+            Event::Receive { from: _ } => kinds::RECEIVE,
+            Event::Reply { to: _, word: _ } => kinds::REPLY,
+            Event::End { thread: _ } => kinds::END,
+            Event::WaitClock => kinds::WAIT_CLOCK,
+            Event::SliceEnd => kinds::SLICE_END,
+            Event::Tick => kinds::TICK,
         }
     }
 }

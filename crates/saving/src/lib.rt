@@ -24,19 +24,13 @@ use lines::Links;
 use nucleus::State;
 use rules::Number;
 use rules::Place;
+use rules::codes;
 use table::Blocks;
 use table::Desk;
 use table::Thread;
 use table::Words;
 
 pub mod format;
-
-// The codes of a save: done, the buffer is shorter than the image, the state is not consistent.
-pub const DONE: u8 = 0;
-
-pub const SHORT: u8 = 7;
-
-pub const INCONSISTENT: u8 = 14;
 
 // The longest image.
 pub const LONGEST: usize = 584;
@@ -269,13 +263,13 @@ pub fn keep(s: State, buffer: &mut [u8]) -> Saved
     let n = write(&b, &w, &l, d, &mut image);
     if buffer.len() < n {
         return Saved {
-            code: SHORT,
+            code: codes::SHORT,
             length: 0,
         };
     }
     put(buffer, 0, &image[..n]);
     Saved {
-        code: DONE,
+        code: codes::DONE,
         length: n,
     }
 }
@@ -286,7 +280,7 @@ pub fn save(s: State, buffer: &mut [u8]) -> Saved
 {
     if !s.consistent() {
         return Saved {
-            code: INCONSISTENT,
+            code: codes::INCONSISTENT,
             length: 0,
         };
     }

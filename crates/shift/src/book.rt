@@ -160,7 +160,7 @@ pub fn same(kept: &[u8], i: usize, s: State) -> bool {
     }
     let mut image = [0u8; image::LONGEST];
     let r = image::save(s, &mut image);
-    if r.code != image::DONE {
+    if r.code != rules::codes::DONE {
         return false;
     }
     check::same(&kept[a..b], &image)

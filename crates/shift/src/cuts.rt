@@ -2,9 +2,6 @@
 use super::book;
 use nucleus::State;
 
-// Replay's code where the last record is cut short.
-const CUT_SHORT: u8 = 12;
-
 // What was found over all cuts: how many there were, and how many inside a record; how many brought the state back, with the right counts; the loads
 // that waited then, and those that stood in their place again with their word; and the first cut that failed.
 pub struct Found {
@@ -84,7 +81,7 @@ fn told(code: u8, records: u32, bytes: u32, i: usize, at: usize, k: usize) -> bo
     if at == k {
         return code == 0;
     }
-    code == CUT_SHORT
+    code == rules::codes::CUT_SHORT
 }
 
 fn judged(mut f: Found, good: bool, k: usize, at: usize) -> Found {

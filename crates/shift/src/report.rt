@@ -5,15 +5,10 @@ use super::cuts::Found;
 use super::day;
 use super::day::Counts;
 use super::day::Shift;
+use console::say;
 use nucleus::State;
 use rules::Number;
 use rules::Place;
-
-// A number, and the text behind it.
-fn say(n: u64, behind: &[u8]) {
-    console::number(n);
-    console::text(behind);
-}
 
 // The shift, with the lengths of image and log.
 pub fn played(s: Shift, image: usize, log: usize) {

@@ -44,7 +44,7 @@ pub const READY_LINE: u8 = 0;
 
 pub const CLOCK_LINE: u8 = 1;
 
-pub const INBOX_LINES: u8 = 2;
+pub const INBOX_LINES: u8 = lines::QUEUES as u8;
 
 // The set of filled places, the last number given, and the running place.
 pub struct Desk {

@@ -16,6 +16,7 @@ use events::answer;
 use lines::Links;
 use rules::Number;
 use rules::Place;
+use rules::codes;
 use table::Blocks;
 use table::Desk;
 use table::Words;
@@ -30,9 +31,9 @@ fn source(b: &Blocks, d: Desk, n: Number) -> u8
         return names(b, d, n);
     }
     if d.running.0 == lines::NONE {
-        return verbs::IDLE;
+        return codes::IDLE;
     }
-    verbs::DONE
+    codes::DONE
 }
 
 // The first in line q from whom a receive from n, or from any, takes. NONE where there is none.
@@ -70,7 +71,7 @@ pub fn receive(b: &mut Blocks, w: &mut Words, l: &mut Links, d: Desk, from: Numb
     ensures { λ r. ⌜ Did d (now (b .entry)) (now (w .entry)) (now (l .entry)) (Receive from) r (now (b .exit)) (now (w .exit)) (now (l .exit)) ⌝ }
 {
     let code = source(b, d, from);
-    if code != verbs::DONE {
+    if code != codes::DONE {
         return answer(code, d);
     }
     let c = d.running;
@@ -78,8 +79,8 @@ pub fn receive(b: &mut Blocks, w: &mut Words, l: &mut Links, d: Desk, from: Numb
     if p.0 == lines::NONE {
         table::stand(b, w, c, rules::RECEIVING, from, 0);
         let e = verbs::turn_to(d, Place(lines::NONE));
-        return answer(verbs::DONE, e);
+        return answer(codes::DONE, e);
     }
     take(b, w, l, c, p);
-    answer(verbs::DONE, d)
+    answer(codes::DONE, d)
 }

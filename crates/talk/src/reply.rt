@@ -10,6 +10,7 @@ use events::answer;
 use lines::Links;
 use rules::Number;
 use rules::Place;
+use rules::codes;
 use table::Blocks;
 use table::Desk;
 use table::Words;
@@ -49,15 +50,15 @@ pub fn reply(
     ensures { λ r. ⌜ Did d (now (b .entry)) (now (w .entry)) (now (l .entry)) (Reply to word) r (now (b .exit)) (now (w .exit)) (now (l .exit)) ⌝ }
 {
     let a = whom(b, d, to);
-    if a.code != verbs::DONE {
+    if a.code != codes::DONE {
         return answer(a.code, d);
     }
     let p = a.at;
     let c = d.running;
     let me = table::number_of(b, c);
     if !table::awaits(b, p, me) {
-        return answer(verbs::NOT_AWAITING, d);
+        return answer(codes::NOT_AWAITING, d);
     }
     let e = hand_over(b, w, l, d, to, word, p);
-    answer(verbs::DONE, e)
+    answer(codes::DONE, e)
 }

@@ -10,6 +10,7 @@ use events::answer;
 use lines::Links;
 use rules::Number;
 use rules::Place;
+use rules::codes;
 use table::Blocks;
 use table::Desk;
 use table::Words;
@@ -47,10 +48,10 @@ pub fn send(b: &mut Blocks, w: &mut Words, l: &mut Links, d: Desk, to: Number, w
     ensures { λ r. ⌜ Did d (now (b .entry)) (now (w .entry)) (now (l .entry)) (Send to word) r (now (b .exit)) (now (w .exit)) (now (l .exit)) ⌝ }
 {
     let a = whom(b, d, to);
-    if a.code != verbs::DONE {
+    if a.code != codes::DONE {
         return answer(a.code, d);
     }
     let p = a.at;
     let e = deliver(b, w, l, d, to, word, p);
-    answer(verbs::DONE, e)
+    answer(codes::DONE, e)
 }

@@ -5,6 +5,7 @@ ghost use Rattle.threads.specs.Ran.{Ran};
 use events::Outcome;
 use lines::Links;
 use rules::Event;
+use rules::codes;
 use table::Blocks;
 use table::Desk;
 use table::Words;
@@ -32,7 +33,7 @@ pub fn run(b: &mut Blocks, w: &mut Words, l: &mut Links, d: Desk, e: Event) -> O
     ensures { λ r. ⌜ Ran d (now (b .entry)) (now (w .entry)) (now (l .entry)) e r (now (b .exit)) (now (w .exit)) (now (l .exit)) ⌝ }
 {
     let r = act(b, w, l, d, e);
-    if r.code != verbs::DONE {
+    if r.code != codes::DONE {
         return r;
     }
     let x = r.desk;

@@ -1,4 +1,4 @@
-// The fields of a vector. Two bytes say how long a field is, and it follows; what runs past the end is cut. A vector is a field too, of the file.
+// The fields of a vector. Two bytes say how long a field is, and it follows; one that runs past the end is not whole. A vector is a field too, of the file.
 ghost use Prim.Native.Nat.{_≤_, _<_};
 ghost use lib.ListN.{length};
 ghost use Rattle.vectors.specs.Within.{Within};
@@ -6,6 +6,7 @@ ghost use Rattle.vectors.specs.Within.{Within};
 pub struct Field {
     pub start: usize,
     pub end: usize,
+    pub whole: bool,
 }
 
 pub fn field_at(bytes: &[u8], at: usize) -> Field
@@ -17,12 +18,14 @@ pub fn field_at(bytes: &[u8], at: usize) -> Field
         return Field {
             start: all,
             end: all,
+            whole: false,
         };
     }
     if at > all - 2 {
         return Field {
             start: all,
             end: all,
+            whole: false,
         };
     }
     let start = at + 2;
@@ -31,11 +34,13 @@ pub fn field_at(bytes: &[u8], at: usize) -> Field
         return Field {
             start: start,
             end: all,
+            whole: false,
         };
     }
     Field {
         start: start,
         end: start + n,
+        whole: true,
     }
 }
 

@@ -12,8 +12,7 @@ pub fn run(vector: &[u8]) {
 fn loaded(bytes: &[u8]) {
     let r = image::load(bytes);
     let s = r.state;
-    console::number(r.code as u64);
-    console::text(b" ");
+    console::say(r.code as u64, b" ");
     console::image_of(s);
     console::text(b" ");
     console::choice(s.choice());
@@ -39,7 +38,6 @@ fn comma(i: usize) {
 }
 
 fn part(bytes: &[u8], n: Number) {
-    console::number(n.0 as u64);
-    console::text(b":");
+    console::say(n.0 as u64, b":");
     console::hex(image::look_up(bytes, n));
 }

@@ -58,6 +58,10 @@ fn one(bytes: &[u8], at: usize) -> usize
     ensures { λ r. ⌜ (at < r) × (r ≤ length (now (bytes .entry))) ⌝ }
 {
     let vector = fields::field_at(bytes, at + 1);
+    if !vector.whole {
+        console::complain(b"vectors: the file ends inside a vector\n");
+        return bytes.len();
+    }
     let a = vector.start;
     let b = vector.end;
     if !run(bytes[at], &bytes[a..b]) {
@@ -66,7 +70,7 @@ fn one(bytes: &[u8], at: usize) -> usize
     b
 }
 
-// The line of a vector. Whether its kind is known; where it is not, the line says so, and is not the stored one.
+// The line of a vector. Whether its kind is known; where it is not, that is said.
 fn run(kind: u8, vector: &[u8]) -> bool {
     match kind {
         LOAD => loads::run(vector),
@@ -74,9 +78,7 @@ fn run(kind: u8, vector: &[u8]) -> bool {
         RECORD => records::run(vector),
         READER => readings::run(vector),
         _ => {
-            console::text(b"no kind ");
-            console::number(kind as u64);
-            console::text(b"\n");
+            console::complain(b"vectors: a vector is of no known kind\n");
             return false;
         }
     }

@@ -14,8 +14,7 @@ fn reading(log: &[u8], at: usize) {
     let r = reader::read_from(log, at);
     let got = r.got;
     let next = r.at;
-    console::number(got.code() as u64);
-    console::text(b" ");
+    console::say(got.code() as u64, b" ");
     bytes_of(got, log, at, next);
     console::text(b" ");
     console::number(next as u64);

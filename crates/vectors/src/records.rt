@@ -1,5 +1,6 @@
 // Vectors of recording: an image, the sizes of a log full of one byte, and the record of the event that is recorded there. The line says the answer, the image
 // then, and what the log holds.
+ghost use Prim.Native.Nat.{_≤_};
 use crate::fields;
 use journal::Read;
 use nucleus::State;
@@ -23,15 +24,15 @@ fn tried(image: &[u8], sizes: &[u8], written: &[u8]) {
     let s = from.state;
     let got = journal::read_at(written, 0);
     let Read::Record { event, next: _ } = got else {
+        console::text(b"no record");
         return;
     };
-    logged(
-        s,
-        event,
-        fields::number_at(sizes, 0),
-        fill_of(sizes),
-        fields::number_at(sizes, 5),
-    );
+    let room = fields::number_at(sizes, 0);
+    if room > ROOM {
+        console::text(b"no room");
+        return;
+    }
+    logged(s, event, room, fill_of(sizes), fields::number_at(sizes, 5));
 }
 
 // The byte behind the room.
@@ -43,10 +44,9 @@ fn fill_of(sizes: &[u8]) -> u8 {
 }
 
 // The event is recorded in a log of so much room, full of one byte.
-fn logged(s: State, e: Event, room: usize, fill: u8, start: usize) {
-    if room > ROOM {
-        return;
-    }
+fn logged(s: State, e: Event, room: usize, fill: u8, start: usize)
+    requires { ⌜ room ≤ 40000 ⌝ }
+{
     let mut log = [fill; ROOM];
     recorded(s, e, &mut log[..room], fill, start);
 }
@@ -57,14 +57,11 @@ fn recorded(s: State, e: Event, log: &mut [u8], fill: u8, start: usize) {
     let choice = r.choice;
     let after = r.state;
     let position = r.position;
-    console::number(r.code as u64);
-    console::text(b" ");
+    console::say(r.code as u64, b" ");
     console::choice(choice);
     console::text(b" ");
-    console::number(r.number.0 as u64);
-    console::text(b" ");
-    console::number(position as u64);
-    console::text(b" ");
+    console::say(r.number.0 as u64, b" ");
+    console::say(position as u64, b" ");
     console::image_of(after);
     console::text(b" ");
     wrote(log, start, position);

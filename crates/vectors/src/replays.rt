@@ -11,12 +11,9 @@ fn replayed(bytes: &[u8], log: &[u8]) {
     let s = from.state;
     let r = logbook::replay(s, log);
     let choice = r.choice;
-    console::number(r.code as u64);
-    console::text(b" ");
-    console::number(r.records as u64);
-    console::text(b" ");
-    console::number(r.bytes as u64);
-    console::text(b" ");
+    console::say(r.code as u64, b" ");
+    console::say(r.records as u64, b" ");
+    console::say(r.bytes as u64, b" ");
     console::choice(choice);
     console::text(b" ");
     let after = r.state;

@@ -4,6 +4,7 @@ ghost use Rattle.verbs.specs.Find.{found};
 ghost use Rattle.verbs.specs.Address.{Seated, Names, Addresses};
 use rules::Number;
 use rules::Place;
+use rules::codes;
 use table::Blocks;
 use table::Desk;
 
@@ -30,16 +31,16 @@ pub fn names(b: &Blocks, d: Desk, n: Number) -> u8
 {
     let p = d.running;
     if p.0 == lines::NONE {
-        return super::IDLE;
+        return codes::IDLE;
     }
     let me = table::number_of(b, p);
     if n.0 > rules::LAST_NUMBER {
-        return super::NO_NUMBER;
+        return codes::NO_NUMBER;
     }
     if n.0 == me.0 {
-        return super::OWN_NUMBER;
+        return codes::OWN_NUMBER;
     }
-    super::DONE
+    codes::DONE
 }
 
 // What a caller's naming a thread comes to: where the code is DONE, the place of that live thread, and otherwise the code says why there is none.
@@ -54,7 +55,7 @@ pub fn whom(b: &Blocks, d: Desk, n: Number) -> Address
     ensures { λ r. ⌜ Addresses d (now (b .entry)) (n .0) r ⌝ }
 {
     let code = names(b, d, n);
-    if code != super::DONE {
+    if code != codes::DONE {
         return Address {
             code: code,
             at: Place(lines::NONE),
@@ -63,12 +64,12 @@ pub fn whom(b: &Blocks, d: Desk, n: Number) -> Address
     let p = find(b, n);
     if p.0 == lines::NONE {
         return Address {
-            code: super::NOT_LIVE,
+            code: codes::NOT_LIVE,
             at: p,
         };
     }
     Address {
-        code: super::DONE,
+        code: codes::DONE,
         at: p,
     }
 }

@@ -16,21 +16,6 @@ use table::Words;
 
 pub mod address;
 
-// The codes of an event: done, or why it is refused.
-pub const DONE: u8 = 0;
-
-pub const IDLE: u8 = 1;
-
-pub const NO_NUMBER: u8 = 2;
-
-pub const OWN_NUMBER: u8 = 3;
-
-pub const NOT_LIVE: u8 = 4;
-
-pub const NOT_AWAITING: u8 = 5;
-
-pub const FULL: u8 = 6;
-
 // p, which stands in no line, goes to the back of ready. Nothing enters ready but here.
 pub fn ready(b: &mut Blocks, w: &mut Words, l: &mut Links, p: Place)
     requires { ⌜ Whole (now b) (now w) (now l) × (p .0 < places) × Loose lineCount (lineOf places (now l)) (p .0) ⌝ }

@@ -48,17 +48,14 @@ text-requires c κs = search needs
 live-requires : tie.Need-live-requires Inv-loop μ-loop
 live-requires c κs = search needs
 
-cast-number : tie.Need-cast-number Inv-loop μ-loop
-cast-number c = search needs
+cast-say : tie.Need-cast-say Inv-loop μ-loop
+cast-say c = search needs
 
-number-requires : tie.Need-number-requires Inv-loop μ-loop
-number-requires c κs = search needs
+slice-aggregate-say : tie.Need-slice-aggregate-say Inv-loop μ-loop
+slice-aggregate-say c = search needs
 
-slice-aggregate-text-2 : tie.Need-slice-aggregate-text-2 Inv-loop μ-loop
-slice-aggregate-text-2 c = search needs
-
-text-requires-2 : tie.Need-text-requires-2 Inv-loop μ-loop
-text-requires-2 c κs = search needs
+say-requires : tie.Need-say-requires Inv-loop μ-loop
+say-requires c κs = search needs
 
 returns : tie.Need-returns Inv-loop μ-loop
 returns c = search needs
@@ -81,8 +78,7 @@ fills-spec =
     slice-aggregate-text
     text-requires
     live-requires
-    cast-number
-    number-requires
-    slice-aggregate-text-2
-    text-requires-2
+    cast-say
+    slice-aggregate-say
+    say-requires
     returns)

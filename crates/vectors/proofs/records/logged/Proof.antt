@@ -5,9 +5,6 @@ use lib.ListN.{length-take, length-replicate}
 use Rattle.vectors.proofs.records.logged.Statement.{statement}
 use Rattle.vectors.proofs.records.logged.Tie as tie
 
-returns : tie.Need-returns
-returns c = search needs
-
 array-borrow-prefix-log : tie.Need-array-borrow-prefix-log
 array-borrow-prefix-log c = search needs
 
@@ -17,10 +14,10 @@ slice-aggregate-recorded c = simp (length-take, length-replicate) (omega arith)
 recorded-requires : tie.Need-recorded-requires
 recorded-requires c κs = search needs
 
-returns-2 : tie.Need-returns-2
-returns-2 c = search needs
+returns : tie.Need-returns
+returns c = search needs
 
 pub logged-spec : {M : Type 1} → statement M
 logged-spec =
     tie.close
-    (tie.spec returns array-borrow-prefix-log slice-aggregate-recorded recorded-requires returns-2)
+    (tie.spec array-borrow-prefix-log slice-aggregate-recorded recorded-requires returns)
