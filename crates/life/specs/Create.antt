@@ -27,8 +27,8 @@ use Rattle.verbs.specs.Caller.{sounds, loose}
 use Rattle.life.specs.Number.{freeAfter, number-is}
 
 -- what the set of filled places tells: how many live, and which place is the lowest that is empty
-abbrev pub Counts : ℕ → ℕ → Type 0
-Counts x r = (f : ℕ → Bool) → x ≡ wordOf places f → r ≡ tally places f
+abbrev pub Tallies : ℕ → ℕ → Type 0
+Tallies x r = (f : ℕ → Bool) → x ≡ wordOf places f → r ≡ tally places f
 
 abbrev pub Lowest : ℕ → ℕ → Type 0
 Lowest x r = (f : ℕ → Bool) → x ≡ wordOf places f → r ≡ lowestOut places f
@@ -36,7 +36,7 @@ Lowest x r = (f : ℕ → Bool) → x ≡ wordOf places f → r ≡ lowestOut pl
 abbrev pub With : ℕ → ℕ → ℕ → Type 0
 With x p r = (f : ℕ → Bool) → x ≡ wordOf places f → r ≡ wordOf places (including p f)
 
-module _ {d : Desk} {b w l : List ℕ} (k : Stands d b w l) {c : ℕ} (a : Counts (d .filled) c) where
+module _ {d : Desk} {b w l : List ℕ} (k : Stands d b w l) {c : ℕ} (a : Tallies (d .filled) c) where
   live-is : c ≡ tally places (livesAt (shown d b w l))
   live-is = a (livesAt (shown d b w l)) (filled-lives k)
 

@@ -13,7 +13,7 @@ use Rattle.lists.specs.Laws.{by-test}
 use Rattle.rules.specs.declared.Event.{Event}
 use Rattle.order.specs.Keeps.{AllFit}
 use Rattle.journal.specs.Format.{recordOf, readAt}
-use Rattle.journal.specs.Laws.{read-back, read-end, no-half}
+use Rattle.journal.specs.Laws.{read-back, read-end, half-unread}
 use Rattle.journal.specs.declared.Read.the-variants.{Record, AtEnd}
 use Rattle.logbook.specs.Log.{Parsed, andThen, stopsAt, recordsIn, logOf}
 use Rattle.logbook.specs.Reading.{at-end, cut-short, records-on, records-stop}
@@ -60,7 +60,7 @@ ends : (pre rest : List ℕ) (c : ℕ) → Rest rest c → recordsIn (pre ++ res
 ends pre _ _ none =
     let r : readAt (pre ++ []) (length pre) ≡ AtEnd = ap (λ (l : List ℕ). readAt l (length pre)) (append-nil pre) ∙ read-end pre in
     records-stop (pre ++ []) (length pre) r at-end
-ends pre _ _ (half e j h g) = records-stop (pre ++ take j (recordOf e)) (length pre) (no-half pre e j h g) cut-short
+ends pre _ _ (half e j h g) = records-stop (pre ++ take j (recordOf e)) (length pre) (half-unread pre e j h g) cut-short
 
 -- What is read in whole records and such a rest: the events of the records, no more and no less.
 pub read-log : (es : List Event) (rest : List ℕ) (c : ℕ) → AllFit es → Rest rest c → recordsIn (logOf es ++ rest) 0 ≡ record { events = es; stop = length (logOf es); code = c }

@@ -17,7 +17,7 @@ use Rattle.order.specs.Sound.{Fit, Sound, small}
 use Rattle.order.specs.Belongs.{in-none, in-ready, in-clock, in-inbox}
 use Rattle.order.specs.Places.{live-placed, every-place}
 use Rattle.order.specs.Lines.{Shift, stays, leaves, drops-without}
-use Rattle.order.specs.Moves.{anew, then, Turn, stopping, aside}
+use Rattle.order.specs.Moves.{anew, then, RunsThen, stopping, aside}
 use Rattle.order.specs.Fill.{Swap, changed, after-step}
 use Rattle.order.specs.HandBack.{Handed, hands, Let, lets}
 
@@ -38,7 +38,7 @@ module _ (m : Model) (S : Sound m) (r : ℕ) (live : thread m r .standing ≢ Em
   vacant-nowhere : (q : ℕ) → belongs m vacant q ≡ false
   vacant-nowhere = in-none m vacant (omega arith) (omega arith) (omega arith)
 
-  cleans : (x : ℕ) (ls : List (List ℕ)) → Turn m r vacant x → Shift m r vacant ls → Swap m r vacant (anew m (m .last) r vacant x ls)
+  cleans : (x : ℕ) (ls : List (List ℕ)) → RunsThen m r vacant x → Shift m r vacant ls → Swap m r vacant (anew m (m .last) r vacant x ls)
   cleans x ls T L = changed m r vacant (m .last) x ls S (record {
     place = small m S r live;
     last = S .last;

@@ -11,7 +11,7 @@ use Rattle.rules.specs.Model.{places, lastNumber, Empty, Ready, Sending, Awaiti
 use Rattle.rules.specs.Consistent.{belongs}
 use Rattle.order.specs.Sound.{Fit, Live, Sound}
 use Rattle.order.specs.Lines.{Shift}
-use Rattle.order.specs.Moves.{anew, beside, here, Waits, waits-then, Step, Turn}
+use Rattle.order.specs.Moves.{anew, beside, here, Waits, waits-then, Step, RunsThen}
 
 -- all but the place p is as a Step leaves it, and p holds t
 pub record Swap (m : Model) (p : ℕ) (t : Thread) (k : Model) : Type 0 where
@@ -34,7 +34,7 @@ pub record Change (m : Model) (p : ℕ) (t : Thread) (y x : ℕ) (ls : List (Lis
   pub place : p < places
   pub last : y ≤ lastNumber
   pub fit : Fit t
-  pub turn : Turn m p t x
+  pub turn : RunsThen m p t x
   pub shift : Shift m p t ls
   pub standing : (t .standing ≢ Sending) × (t .standing ≢ Awaiting)
   pub own : (s : ℕ) → s ≢ p → t .standing ≢ Empty → t .number ≢ thread m s .number

@@ -65,7 +65,7 @@ then m a b F G = record {
 -- ---- a move
 
 -- who runs afterwards
-pub record Turn (m : Model) (p : ℕ) (t : Thread) (x : ℕ) : Type 0 where
+pub record RunsThen (m : Model) (p : ℕ) (t : Thread) (x : ℕ) : Type 0 where
   pub alone : (s : ℕ) → s ≢ p → thread m s .standing ≡ Running → x ≡ s
   pub own : t .standing ≡ Running → x ≡ p
   pub busy : x ≢ none → x ≢ p → thread m x .standing ≡ Running
@@ -76,7 +76,7 @@ pub record Move (m : Model) (p : ℕ) (t : Thread) (x : ℕ) (ls : List (List �
   pub lives : t .standing ≢ Empty
   pub named : t .number ≡ thread m p .number
   pub fit : Fit t
-  pub turn : Turn m p t x
+  pub turn : RunsThen m p t x
   pub shift : Shift m p t ls
   pub served : Sending ≤ t .standing → t .standing ≤ Awaiting → Live m (t .partner)
   pub hearing : (s : ℕ) → thread m s .standing ≡ Sending → thread m s .partner ≡ thread m p .number → hears t (thread m s .number) ≡ false
@@ -156,7 +156,7 @@ module _ (m : Model) (p : ℕ) (t : Thread) (x : ℕ) (ls : List (List ℕ)) (S 
 -- ---- the three ways the turn changes
 
 module _ (m : Model) (S : Sound m) (p : ℕ) (t : Thread) where
-  pub stopping : thread m p .standing ≡ Running → t .standing ≢ Running → Turn m p t none
+  pub stopping : thread m p .standing ≡ Running → t .standing ≢ Running → RunsThen m p t none
   stopping e n = record {
     alone = λ s k f. absurd (k (sym (S .alone s f) ∙ S .alone p e));
     own = λ f. absurd (n f);
@@ -164,7 +164,7 @@ module _ (m : Model) (S : Sound m) (p : ℕ) (t : Thread) where
     busyOwn = λ f. absurd (let h : p < places = small m S p (λ z. let y : _≡_ {A = ℕ} 1 0 = sym e ∙ z in omega arith) in omega arith);
   }
 
-  pub starting : m .running ≡ none → thread m p .standing ≢ Empty → t .standing ≡ Running → Turn m p t p
+  pub starting : m .running ≡ none → thread m p .standing ≢ Empty → t .standing ≡ Running → RunsThen m p t p
   starting e n f = record {
     alone = λ s k g. absurd (let h : s < places = small m S s (λ z. let y : _≡_ {A = ℕ} 1 0 = sym g ∙ z in omega arith) in let i = S .alone s g in omega arith);
     own = λ g. refl;
@@ -172,7 +172,7 @@ module _ (m : Model) (S : Sound m) (p : ℕ) (t : Thread) where
     busyOwn = λ g. f;
   }
 
-  pub aside : thread m p .standing ≢ Running → p < places → t .standing ≢ Running → Turn m p t (m .running)
+  pub aside : thread m p .standing ≢ Running → p < places → t .standing ≢ Running → RunsThen m p t (m .running)
   aside n h k = record {
     alone = λ s i f. S .alone s f;
     own = λ f. absurd (k f);

@@ -14,30 +14,30 @@ use Rattle.rules.specs.Consistent.{asTable, isAnswer}
 use Rattle.order.specs.Sound.{Short, Live, Sound, small}
 use Rattle.order.specs.Belongs.{in-none, in-ready}
 use Rattle.order.specs.Lines.{Shift, joins}
-use Rattle.order.specs.Moves.{Turn, Move, Step, stepped, aside}
+use Rattle.order.specs.Moves.{RunsThen, Move, Step, stepped, aside}
 
 -- the thread of place p with another standing and answer
 abbrev pub become : Model → ℕ → ℕ → ℕ → ℕ → ℕ → ℕ → ℕ → Thread
 become m p st pa w c n a = stands st pa w (told c n a (thread m p))
 
 -- an answer as the table of document 01 allows
-pub record Answer (c n a : ℕ) : Type 0 where
+pub record AllowedAnswer (c n a : ℕ) : Type 0 where
   pub allowed : isAnswer c n a ≡ true
   pub short : Short a
 
 -- the answer that a place has
-pub as-told : (m : Model) → Sound m → (p : ℕ) → Answer (thread m p .code) (thread m p .who) (thread m p .answer)
+pub as-told : (m : Model) → Sound m → (p : ℕ) → AllowedAnswer (thread m p .code) (thread m p .who) (thread m p .answer)
 as-told m S p = record { allowed = S .fits p .answer; short = S .fits p .words .1 }
 
 -- an answer from a number
-pub told-by : (c n a : ℕ) → n ≤ lastNumber → eqb c 0 || eqb c 16 ≡ true → Short a → Answer c n a
+pub told-by : (c n a : ℕ) → n ≤ lastNumber → eqb c 0 || eqb c 16 ≡ true → Short a → AllowedAnswer c n a
 told-by c n a h e s = record { allowed = rw (e, le-leb n lastNumber h); short = s }
 
 module _ (m : Model) (S : Sound m) (p : ℕ) (lived : thread m p .standing ≢ Empty) where
   -- running, ready, waiting for the clock
   pub plain : (st c n a x : ℕ) (ls : List (List ℕ)) → (st ≢ Empty) × (st ≢ Sending) × (st ≢ Awaiting) × (st ≢ Receiving)
-      → asTable st nobody 0 ≡ true → Answer c n a
-      → Turn m p (become m p st nobody 0 c n a) x → Shift m p (become m p st nobody 0 c n a) ls
+      → asTable st nobody 0 ≡ true → AllowedAnswer c n a
+      → RunsThen m p (become m p st nobody 0 c n a) x → Shift m p (become m p st nobody 0 c n a) ls
       → Move m p (become m p st nobody 0 c n a) x ls
   plain st c n a x ls k r w T L =
       let small-number : thread m p .number ≤ lastNumber = S .fits p .number lived in
@@ -63,7 +63,7 @@ module _ (m : Model) (S : Sound m) (p : ℕ) (lived : thread m p .standing ≢ E
   -- sending, awaiting reply
   pub named : (st pa w x : ℕ) (ls : List (List ℕ)) → (st ≢ Empty) × (st ≢ Receiving) → asTable st pa w ≡ true → Short w → Live m pa → pa ≢ thread m p .number
       → ((r : ℕ) → st ≡ Sending → pa ≡ thread m r .number → hears (thread m r) (thread m p .number) ≡ false)
-      → Turn m p (stands st pa w (thread m p)) x → Shift m p (stands st pa w (thread m p)) ls
+      → RunsThen m p (stands st pa w (thread m p)) x → Shift m p (stands st pa w (thread m p)) ls
       → Move m p (stands st pa w (thread m p)) x ls
   named st pa w x ls k r b l n d T L = record {
     lived = lived;
@@ -85,7 +85,7 @@ module _ (m : Model) (S : Sound m) (p : ℕ) (lived : thread m p .standing ≢ E
   }
 
   -- p, in no line and not running, has its answer and goes to the back of ready
-  pub wakes : (c n a : ℕ) → Answer c n a → Awaiting ≤ thread m p .standing → thread m p .standing ≤ Receiving → Step m (woken p c n a m)
+  pub wakes : (c n a : ℕ) → AllowedAnswer c n a → Awaiting ≤ thread m p .standing → thread m p .standing ≤ Receiving → Step m (woken p c n a m)
   wakes c n a w h i =
       let t = become m p Ready nobody 0 c n a in
       stepped m p t (m .running) _ S (plain Ready c n a (m .running) _ (omega arith) refl w
