@@ -19,7 +19,8 @@ use Rattle.nucleus.specs.Answers.{Meets}
 use Rattle.nucleus.specs.declared.State.{State}
 use Rattle.nucleus.specs.declared.Reply.{Reply}
 use Rattle.saving.specs.Format.{encode}
-use Rattle.saving.specs.Longest.{longestImage, longest}
+use Rattle.saving.specs.Editions.{known-few}
+use Rattle.saving.specs.Longest.{longestImage, longest, longest-as}
 use Rattle.saving.specs.Save.{Saves, inconsistent, short, saved}
 use Rattle.loading.specs.Loads.{Loads}
 use Rattle.loading.specs.Accepts.{refuses-of, accepted-of}
@@ -114,7 +115,7 @@ module _ {image : List ℕ} {l : Loaded} (L : Loads image l) where
   load-holds z = accepted-of L z .consists
 
   pub step-taken : {rec out : List ℕ} {t : Told × List ℕ} → l .code ≡ 0 → t ≡ stepOn (view (l .state)) rec out → Boards image rec out t
-  step-taken z h = let A = accepted-of L z in stepped (view (l .state)) (A .consists .consistent) (A .image) h
+  step-taken z h = let A = accepted-of L z in stepped (view (l .state)) (A .image) h
 
 -- ---- the fresh image
 pub fresh-saved : {s : State} {out a : List ℕ} {c n : ℕ} → Shows s fresh → Saves s out c n a → (c, n, a) ≡ freshOn out
@@ -159,11 +160,11 @@ module _ {image : List ℕ} {l : Loaded} (L : Loads image l) where
   bring-refused {out = out} k h = unread (l .code) (refuses-of L k) (ap (λ (z : Brought). (z, out)) h)
 
   pub bring-played : {log out : List ℕ} {t : Brought × List ℕ} → l .code ≡ 0 → t ≡ replayOn (view (l .state)) log out → Brings image log out t
-  bring-played z h = let A = accepted-of L z in played (view (l .state)) (A .consists .consistent) (A .image) h
+  bring-played z h = let A = accepted-of L z in played (view (l .state)) (A .image) h
 
 -- ---- a part
 -- offset and length fit in two bytes
 pub locate-short : {s : List ℕ} {n c o l : ℕ} → Locates s n c o l → o + l ≤ longestImage
-locate-short (spotted F z) = let w = locate-within (spotted F z) in let e = ap length (F .image) in let k = longest (F .m) (F .consistent) in omega arith
+locate-short (spotted F z) = let w = locate-within (spotted F z) in let e = ap length (F .image .bytes) in let k = longest-as (F .row) (F .m) (known-few (F .image .known)) (F .image .consistent) in omega arith
 locate-short (missing A z p q) = omega arith
 locate-short (unseen R p q) = omega arith

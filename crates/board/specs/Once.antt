@@ -15,22 +15,22 @@ use Rattle.journal.specs.declared.Read.{Read}
 use Rattle.journal.specs.declared.Read.the-variants.{Record, AtEnd, CutShort, UnknownKind, PastEnd}
 use Rattle.saving.specs.Format.{encode}
 use Rattle.loading.specs.Accepts.{refuses-not, refuses-one}
-use Rattle.loading.specs.Injective.{encode-injective}
+use Rattle.loading.specs.Injective.{image-one}
 use Rattle.board.specs.Promise.{declined, acted, taken, stepOn, Boards, unloaded, stepped, unplayed, replayOn, Brings, unread, played}
 use Rattle.board.specs.declared.Told.{Told}
 use Rattle.board.specs.declared.Brought.{Brought}
 
 pub board-one : {image rec out : List ℕ} {t u : Told × List ℕ} → Boards image rec out t → Boards image rec out u → t ≡ u
 board-one {out = out} (unloaded c R h) (unloaded d Q g) = h ∙ ap (λ (c : ℕ). (declined c Halt, out)) (refuses-one R Q) ∙ sym g
-board-one (unloaded c R h) (stepped n D f g) = absurd (refuses-not R (n, D, f))
-board-one (stepped m C e h) (unloaded d Q g) = absurd (refuses-not Q (m, C, e))
-board-one {rec = rec} {out = out} (stepped m C e h) (stepped n D f g) = h ∙ ap (λ (m : Model). stepOn m rec out) (encode-injective m n C D (e ∙ sym f)) ∙ sym g
+board-one (unloaded c R h) (stepped n J g) = absurd (refuses-not R (n, J))
+board-one (stepped m I h) (unloaded d Q g) = absurd (refuses-not Q (m, I))
+board-one {rec = rec} {out = out} (stepped m I h) (stepped n J g) = h ∙ ap (λ (m : Model). stepOn m rec out) (image-one I J) ∙ sym g
 
 pub brings-one : {image log out : List ℕ} {t u : Brought × List ℕ} → Brings image log out t → Brings image log out u → t ≡ u
 brings-one {out = out} (unread c R h) (unread d Q g) = h ∙ ap (λ (c : ℕ). (unplayed c Halt, out)) (refuses-one R Q) ∙ sym g
-brings-one (unread c R h) (played n D f g) = absurd (refuses-not R (n, D, f))
-brings-one (played m C e h) (unread d Q g) = absurd (refuses-not Q (m, C, e))
-brings-one {log = log} {out = out} (played m C e h) (played n D f g) = h ∙ ap (λ (m : Model). replayOn m log out) (encode-injective m n C D (e ∙ sym f)) ∙ sym g
+brings-one (unread c R h) (played n J g) = absurd (refuses-not R (n, J))
+brings-one (played m I h) (unread d Q g) = absurd (refuses-not Q (m, I))
+brings-one {log = log} {out = out} (played m I h) (played n J g) = h ∙ ap (λ (m : Model). replayOn m log out) (image-one I J) ∙ sym g
 
 -- ---- a refused call changes nothing, however long the buffer
 acted-still : (m : Model) (o : Outcome) (out : List ℕ) → acted m o out .0 .code ≢ 0 → acted m o out .1 ≡ out
@@ -49,4 +49,4 @@ taken-still m PastEnd size out h = refl
 
 pub refused-still : {image rec out : List ℕ} {t : Told × List ℕ} → Boards image rec out t → t .0 .code ≢ 0 → t .1 ≡ out
 refused-still (unloaded c R g) z = ap (λ (x : Told × List ℕ). x .1) g
-refused-still {rec = rec} {out = out} (stepped m C e g) z = ap (λ (x : Told × List ℕ). x .1) g ∙ taken-still m (readAt rec 0) (length rec) out (rw g at z)
+refused-still {rec = rec} {out = out} (stepped m I g) z = ap (λ (x : Told × List ℕ). x .1) g ∙ taken-still m (readAt rec 0) (length rec) out (rw g at z)

@@ -9,14 +9,13 @@ use lib.ListN.{length, drop}
 use Rattle.rules.specs.Values.{nobody, choiceKind, choiceRuns}
 use Rattle.rules.specs.Model.{Model}
 use Rattle.rules.specs.Rules.{Outcome, outcome, fresh, after, choice}
-use Rattle.rules.specs.Consistent.{Consistent}
 use Rattle.rules.specs.declared.Choice.{Choice}
 use Rattle.rules.specs.declared.Choice.the-variants.{Halt}
 use Rattle.journal.specs.Format.{readAt}
 use Rattle.journal.specs.declared.Read.{Read}
 use Rattle.journal.specs.declared.Read.the-variants.{Record, AtEnd, CutShort, UnknownKind, PastEnd}
 use Rattle.saving.specs.Format.{encode}
-use Rattle.loading.specs.Loads.{Refuses}
+use Rattle.loading.specs.Loads.{Image, Refuses}
 use Rattle.logbook.specs.Log.{limit, Parsed, recordsIn}
 use Rattle.board.specs.declared.Told.{Told}
 use Rattle.board.specs.declared.Brought.{Brought}
@@ -60,7 +59,7 @@ stepOn m rec out = taken m (readAt rec 0) (length rec) out
 -- Order: load's refusals (the choice is halt, since no state was loaded), 13, 12, the event's, 7.
 pub data Boards (image rec out : List ℕ) (t : Told × List ℕ) : Type 0 where
   unloaded : (c : ℕ) → Refuses image c → t ≡ (declined c Halt, out) → Boards image rec out t
-  stepped : (m : Model) → Consistent m → encode m ≡ image → t ≡ stepOn m rec out → Boards image rec out t
+  stepped : (m : Model) → Image m image → t ≡ stepOn m rec out → Boards image rec out t
 
 -- ---- a log
 
@@ -89,7 +88,7 @@ replayOn m log out = cond (ltb limit (length log)) (unplayed 11 (choice m), out)
 -- Order: load's refusals, 11, 7; else 0, 12 or 13 as replay gives them.
 pub data Brings (image log out : List ℕ) (t : Brought × List ℕ) : Type 0 where
   unread : (c : ℕ) → Refuses image c → t ≡ (unplayed c Halt, out) → Brings image log out t
-  played : (m : Model) → Consistent m → encode m ≡ image → t ≡ replayOn m log out → Brings image log out t
+  played : (m : Model) → Image m image → t ≡ replayOn m log out → Brings image log out t
 
 -- ---- the fresh image
 

@@ -7,29 +7,28 @@ use mathlib.Core.Bool.{true}
 use Prim.Native.Nat.{ℕ, _+_, _≤_, _<_}
 use lib.ListN.{length, getD}
 use Rattle.rules.specs.Model.{Place, Model, thread, livesAt}
-use Rattle.rules.specs.Consistent.{Consistent}
-use Rattle.saving.specs.Format.{livePlaces, bodyOf, bodies, firstBody, encode}
+use Rattle.saving.specs.Format.{livePlaces, bodyOf, bodies, firstBody}
+use Rattle.saving.specs.declared.format.Row.{Row}
 use Rattle.loading.specs.Entry.{entryAt}
-use Rattle.loading.specs.Loads.{Refuses}
+use Rattle.loading.specs.Loads.{ImageAs, Image, Refuses}
 
--- the bytes are the image of m, and n is the number of the live place `place`, with the live places `before` in front of it: its body starts behind theirs
+-- the bytes are the image of m in the edition of the row, and n is the number of the live place `place`, with the live places `before` in front of it: its body starts behind theirs
 pub record Spotted (s : List ℕ) (n offset len : ℕ) : Type 0 where
+  pub row : Row
   pub m : Model
-  pub consistent : Consistent m
-  pub image : encode m ≡ s
+  pub image : ImageAs row m s
   pub place : Place
   pub before : List Place
   pub behind : List Place
   pub split : livePlaces m ≡ before ++ (place ∷ behind)
   pub number : thread m place .number ≡ n
-  pub starts : offset ≡ firstBody m + length (bodies m before)
+  pub starts : offset ≡ firstBody row m + length (bodies m before)
   pub long : len ≡ length (bodyOf m place)
 
 -- the bytes are the image of m, in which the number n does not live
 pub record Absent (s : List ℕ) (n : ℕ) : Type 0 where
   pub m : Model
-  pub consistent : Consistent m
-  pub image : encode m ≡ s
+  pub image : Image m s
   pub nobody : (p : ℕ) → livesAt m p ≡ true → thread m p .number ≢ n
 
 pub data Locates (s : List ℕ) (n code offset len : ℕ) : Type 0 where
@@ -40,7 +39,7 @@ pub data Locates (s : List ℕ) (n code offset len : ℕ) : Type 0 where
 -- ---- what the inner functions tell one another
 
 -- r is the first entry with the number n, or the live count
-pub record EntryFor (s : List ℕ) (n r : ℕ) : Type 0 where
+pub record EntryFor (row : Row) (s : List ℕ) (n r : ℕ) : Type 0 where
   pub upto : r ≤ getD s 3 0
-  pub before : (k : ℕ) → k < r → getD s (entryAt k + 1) 0 ≢ n
-  pub here : r < getD s 3 0 → getD s (entryAt r + 1) 0 ≡ n
+  pub before : (k : ℕ) → k < r → getD s (entryAt row k + 1) 0 ≢ n
+  pub here : r < getD s 3 0 → getD s (entryAt row r + 1) 0 ≡ n

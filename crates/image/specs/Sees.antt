@@ -6,25 +6,25 @@ use mathlib.Core.Bool.{true}
 use Prim.Native.Nat.{ℕ, _+_, _≤_}
 use lib.ListN.{length, take, drop, getD}
 use Rattle.rules.specs.Model.{Model, thread, livesAt}
-use Rattle.rules.specs.Consistent.{Consistent}
-use Rattle.saving.specs.Format.{bodyOf, encode}
+use Rattle.saving.specs.Format.{bodyOf}
+use Rattle.saving.specs.declared.format.Row.{Row}
 use Rattle.loading.specs.Entry.{entryAt, bodyAt}
-use Rattle.loading.specs.Loads.{Foreign}
+use Rattle.loading.specs.Loads.{ImageAs, Foreign}
 use Rattle.image.specs.Locates.{Absent, Locates}
 
--- the bytes are the image of m, in which the number n lives at `place`; and the part is the body of that place, and stands where its entry says
+-- the bytes are the image of m in the edition of the row, in which the number n lives at `place`; and the part is the body of that place, and stands where its entry says
 pub record Found (s : List ℕ) (n : ℕ) (part : List ℕ) : Type 0 where
+  pub row : Row
   pub m : Model
-  pub consistent : Consistent m
-  pub image : encode m ≡ s
+  pub image : ImageAs row m s
   pub place : ℕ
   pub lives : livesAt m place ≡ true
   pub number : thread m place .number ≡ n
   pub body : part ≡ bodyOf m place
   pub entry : ℕ
-  pub named : getD s (entryAt entry) 0 ≡ place
-  pub within : bodyAt s entry + length part ≤ length s
-  pub stands : part ≡ take (length part) (drop (bodyAt s entry) s)
+  pub named : getD s (entryAt row entry) 0 ≡ place
+  pub within : bodyAt row s entry + length part ≤ length s
+  pub stands : part ≡ take (length part) (drop (bodyAt row s entry) s)
 
 pub data Sees (s : List ℕ) (n : ℕ) (part : List ℕ) : Type 0 where
   found : Found s n part → Sees s n part

@@ -2,6 +2,7 @@
 ghost use mathlib.Core.Path.{_≡_};
 ghost use Prim.Native.Nat.{_+_, _<_};
 ghost use lib.ListN.{getD};
+ghost use Rattle.saving.specs.Format.{inboxLengthAt, bodyLength};
 ghost use Rattle.loading.specs.Entry.{bodyAt};
 ghost use Rattle.image.specs.Locates.{Locates, EntryFor};
 use super::Part;
@@ -9,15 +10,17 @@ use loading::bytes;
 use rules::Number;
 use rules::codes;
 use saving::format;
+use saving::format::Row;
 
 // The entry of the number n, or the live count where it has none.
-fn find(image: &[u8], n: Number) -> usize
-    ensures { λ r. ⌜ EntryFor (now (image .entry)) (n .0) r ⌝ }
+fn find(row: Row, image: &[u8], n: Number) -> usize
+    ensures { λ r. ⌜ EntryFor row (now (image .entry)) (n .0) r ⌝ }
 {
     let live = bytes::wide(bytes::at(image, format::LIVE_AT));
+    let head = format::head_length(row);
     let mut i = 0;
     while i < live {
-        let entry = format::HEAD + format::ENTRY * i;
+        let entry = head + format::ENTRY * i;
         if bytes::at(image, entry + format::NUMBER_AT) == n.0 {
             return i;
         }
@@ -27,11 +30,11 @@ fn find(image: &[u8], n: Number) -> usize
 }
 
 // The body that entry i names, with its inbox.
-fn body(image: &[u8], i: usize) -> Part
+fn body(row: Row, image: &[u8], i: usize) -> Part
     requires { ⌜ i < 256 ⌝ }
-    ensures { λ r. ⌜ (r .code ≡ 0) × (r .offset ≡ bodyAt (now (image .entry)) i) × (r .length ≡ 13 + getD (now (image .entry)) (r .offset + 12) 0) ⌝ }
+    ensures { λ r. ⌜ (r .code ≡ 0) × (r .offset ≡ bodyAt row (now (image .entry)) i) × (r .length ≡ bodyLength + getD (now (image .entry)) (r .offset + inboxLengthAt) 0) ⌝ }
 {
-    let entry = format::HEAD + format::ENTRY * i;
+    let entry = format::head_length(row) + format::ENTRY * i;
     let from = bytes::two(image, entry + format::OFFSET_AT);
     let inbox = bytes::wide(bytes::at(image, from + format::INBOX_LENGTH_AT));
     Part {
@@ -54,7 +57,8 @@ pub fn part_of(image: &[u8], n: Number) -> Part
             length: 0,
         };
     }
-    let i = find(image, n);
+    let row = loading::row_at(image);
+    let i = find(row, image, n);
     if i >= bytes::wide(bytes::at(image, format::LIVE_AT)) {
         return Part {
             code: codes::NOT_LIVE,
@@ -62,5 +66,5 @@ pub fn part_of(image: &[u8], n: Number) -> Part
             length: 0,
         };
     }
-    body(image, i)
+    body(row, image, i)
 }

@@ -6,9 +6,13 @@ use Prim.Native.Nat.{ℕ, _+_}
 abbrev pub places : ℕ
 places = 32
 
--- two lines, ready and clock, and one for each place, its inbox
+-- two queues, ready and clock: the lines 0 and 1
+abbrev pub queueCount : ℕ
+queueCount = 2
+
+-- the queues, and one line for each place, its inbox
 abbrev pub lineCount : ℕ
-lineCount = 2 + places
+lineCount = queueCount + places
 
 -- the bytes that the lines take: one for each place, and two for each line
 abbrev pub cells : ℕ

@@ -3,44 +3,47 @@ use mathlib.Core.Path.{_≡_, sym, _∙_}
 use mathlib.Core.Logic.{_≢_}
 use mathlib.Core.List.{List}
 use lib.Dec.{eqb, ltb}
-use lib.ListN.{length, getD}
+use lib.ListN.{length}
 use Rattle.lists.specs.Laws.{by-test}
 use Rattle.lists.specs.Bytes.{twoAt}
 use Prim.Native.Nat.{ℕ}
 use native.Mathlib.Omega.{arith}
 use Rattle.rules.specs.Model.{Model}
-use Rattle.rules.specs.Consistent.{Consistent}
 use Rattle.nucleus.specs.View.{view, Shows}
 use Rattle.nucleus.specs.Settled.{settled, shows-one}
-use Rattle.saving.specs.Format.{edition, headLength, encode}
-use Rattle.loading.specs.Loads.{headCode, Foreign, Refused, Taken, Judged, foreign, accepted, Loads, bad-head, good-head, Refuses, by-head, by-whole}
-use Rattle.loading.specs.Judges.{image-of, head-image}
-use Rattle.loading.specs.Injective.{encode-injective}
+use Rattle.saving.specs.Format.{shortestHead, totalAt, headLength}
+use Rattle.loading.specs.Loads.{rowAt, headCode, Image, Foreign, Refused, Taken, Judged, foreign, accepted, Loads, bad-head, good-head, Refuses, by-head, by-whole}
+use Rattle.loading.specs.Judges.{head-image}
+use Rattle.loading.specs.Injective.{image-one}
 use Rattle.loading.specs.declared.Loaded.{Loaded}
 
--- the bytes are the image of some consistent model
+-- the bytes are, in some known edition, the image of some consistent model that it can hold
 abbrev pub IsImage : List ℕ → Type 0
-IsImage s = (m : Model) × Consistent m × (encode m ≡ s)
+IsImage s = (m : Model) × Image m s
 
 -- load gives 0 exactly for these
 pub accepts : {s : List ℕ} {r : Loaded} → Loads s r → (r .code ≡ 0 → IsImage s) × (IsImage s → r .code ≡ 0)
-accepts (bad-head n R) = (λ z. absurd (n (sym (R .told) ∙ z)), λ w. absurd (n (head-image (image-of (w .1) (w .2)))))
-accepts (good-head h (foreign f R)) = (λ z. let t = R .told in absurd (omega arith), λ w. absurd (f (w .0) (w .1) (w .2)))
-accepts {r = r} (good-head h (accepted A)) = (λ z. (view (r .state), A .consists .consistent, A .image), λ w. A .told)
+accepts (bad-head n R) = (λ z. absurd (n (sym (R .told) ∙ z)), λ w. absurd (n (head-image (w .1))))
+accepts (good-head h (foreign f R)) = (λ z. let t = R .told in absurd (omega arith), λ w. absurd (f (w .0) (w .1)))
+accepts {r = r} (good-head h (accepted A)) = (λ z. (view (r .state), A .image), λ w. A .told)
 
 -- and 10 exactly where neither 8 nor 9 is given and the bytes are the image of no consistent model
 head-codes : (s : List ℕ) → headCode s ≡ 10 → ⊥
 head-codes s e =
-    by-test (ltb (length s) headLength)
+    by-test (ltb (length s) shortestHead)
     (λ t. let z : _≡_ {A = ℕ} 8 10 = rw t at e in omega arith)
-    (λ t. by-test (eqb (getD s 0 0) edition)
-    (λ u. by-test (eqb (twoAt s 6) (length s)) (λ v. let z : _≡_ {A = ℕ} 0 10 = rw (t, u, v) at e in omega arith) (λ v. let z : _≡_ {A = ℕ} 8 10 = rw (t, u, v) at e in omega arith))
-    (λ u. let z : _≡_ {A = ℕ} 9 10 = rw (t, u) at e in omega arith))
+    (λ t. by-test (eqb (rowAt s .queues) 0)
+    (λ u. let z : _≡_ {A = ℕ} 9 10 = rw (t, u) at e in omega arith)
+    (λ u. by-test (ltb (length s) (headLength (rowAt s)))
+    (λ v. let z : _≡_ {A = ℕ} 8 10 = rw (t, u, v) at e in omega arith)
+    (λ v. by-test (eqb (twoAt s (totalAt (rowAt s))) (length s))
+    (λ w. let z : _≡_ {A = ℕ} 0 10 = rw (t, u, v, w) at e in omega arith)
+    (λ w. let z : _≡_ {A = ℕ} 8 10 = rw (t, u, v, w) at e in omega arith))))
 
 pub refuses : {s : List ℕ} {r : Loaded} → Loads s r → (r .code ≡ 10 → (headCode s ≡ 0) × Foreign s) × (headCode s ≡ 0 → Foreign s → r .code ≡ 10)
 refuses {s} (bad-head n R) = (λ z. absurd (head-codes s (sym (R .told) ∙ z)), λ h f. absurd (n h))
 refuses (good-head h (foreign f R)) = (λ z. (h, f), λ g k. R .told)
-refuses {r = r} (good-head h (accepted A)) = (λ z. let t = A .told in absurd (omega arith), λ g k. absurd (k (view (r .state)) (A .consists .consistent) (A .image)))
+refuses {r = r} (good-head h (accepted A)) = (λ z. let t = A .told in absurd (omega arith), λ g k. absurd (k (view (r .state)) (A .image)))
 
 -- code 0 says that the bytes are the image of the state given
 pub accepted-of : {s : List ℕ} {r : Loaded} → Loads s r → r .code ≡ 0 → Taken s r
@@ -56,8 +59,8 @@ refuses-of (good-head h (accepted A)) k = absurd (k (A .told))
 
 -- .. no image of a consistent model is refused, ..
 pub refuses-not : {s : List ℕ} {c : ℕ} → Refuses s c → IsImage s → ⊥
-refuses-not (by-head n e) w = n (head-image (image-of (w .1) (w .2)))
-refuses-not (by-whole h f e) w = f (w .0) (w .1) (w .2)
+refuses-not (by-head n e) w = n (head-image (w .1))
+refuses-not (by-whole h f e) w = f (w .0) (w .1)
 
 -- .. and bytes are refused with one code
 pub refuses-one : {s : List ℕ} {c d : ℕ} → Refuses s c → Refuses s d → c ≡ d
@@ -66,11 +69,11 @@ refuses-one (by-head n e) (by-whole h f g) = absurd (n h)
 refuses-one (by-whole h f e) (by-head k g) = absurd (k h)
 refuses-one (by-whole h f e) (by-whole j k g) = e ∙ sym g
 
--- what was saved is loaded
-pub loads-back : {s : List ℕ} {r : Loaded} (m : Model) → Consistent m → encode m ≡ s → Loads s r → Shows (r .state) m
-loads-back m C e (bad-head n R) = absurd (n (head-image (image-of C e)))
-loads-back m C e (good-head h (foreign f R)) = absurd (f m C e)
-loads-back {r = r} m C e (good-head h (accepted A)) = record { consists = A .consists; seen = encode-injective (view (r .state)) m (A .consists .consistent) C (A .image ∙ sym e) }
+-- what the bytes are the image of is loaded
+pub loads-back : {s : List ℕ} {r : Loaded} (m : Model) → Image m s → Loads s r → Shows (r .state) m
+loads-back m I (bad-head n R) = absurd (n (head-image I))
+loads-back m I (good-head h (foreign f R)) = absurd (f m I)
+loads-back m I (good-head h (accepted A)) = record { consists = A .consists; seen = image-one (A .image) I }
 
 -- ---- one answer
 
@@ -84,10 +87,10 @@ accepted-one : {s : List ℕ} {r t : Loaded} → Taken s r → Taken s t → r �
 accepted-one {s} {r} {t} A B =
     loaded-is (A .told ∙ sym (B .told))
     (settled (r .state) (t .state) (A .consists) (B .consists)
-    (encode-injective (view (r .state)) (view (t .state)) (A .consists .consistent) (B .consists .consistent) (A .image ∙ sym (B .image))))
+    (image-one (A .image) (B .image)))
 
 never-both : {G : Type 0} {s : List ℕ} {r : Loaded} → Foreign s → Taken s r → G
-never-both {r = r} f A = absurd (f (view (r .state)) (A .consists .consistent) (A .image))
+never-both {r = r} f A = absurd (f (view (r .state)) (A .image))
 
 judged-one : {s : List ℕ} {r t : Loaded} → Judged s r → Judged s t → r ≡ t
 judged-one (foreign f R) (foreign g T) = refused-one R T

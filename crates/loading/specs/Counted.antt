@@ -14,9 +14,10 @@ use Rattle.order.specs.Keeps.{fresh-consistent, always}
 use Rattle.rules.specs.Consistent.{Consistent}
 use Rattle.nucleus.specs.View.{view, Shows}
 use Rattle.nucleus.specs.declared.State.{State}
-use Rattle.saving.specs.Format.{encode}
+use Rattle.saving.specs.Format.{queuesIn, encodeAs, encode}
 use Rattle.loading.specs.Loads.{Loads}
 use Rattle.saving.specs.Save.{Saves}
+use Rattle.loading.specs.Judges.{saved-image}
 use Rattle.loading.specs.Accepts.{accepts, loads-back}
 use Rattle.loading.specs.RoundTrip.{saves-well, front-image}
 use Rattle.loading.specs.declared.Loaded.{Loaded}
@@ -60,12 +61,12 @@ undone m image C e = record {
       let f : encode (view s) ≡ image = ap encode (S .seen) ∙ e in
       let w = saves-well (S .consists) (subst (λ (l : List ℕ). length l ≤ length before) (sym f) h) K in
       (w .0, sym (front-image (w .1) .1) ∙ f);
-  loaded = λ r L. (accepts L .1 (m, C, e), loads-back m C e L);
+  loaded = λ r L. let I = saved-image C e in (accepts L .1 (m, I), loads-back m I L);
 }
 
 -- each row's image is that of its state, and both ways
 pub counted-images : Every (λ c. (encode (state c) ≡ c .image) × Undone (state c) (c .image)) images
-unfolding images encode allPlaces tally firstFree
+unfolding images encodeAs queuesIn allPlaces tally firstFree
 counted-images = (
   (refl, undone fresh (encode fresh) fresh-consistent refl),
   ((refl, undone (after pair fresh) (encode (after pair fresh)) (always pair fresh fresh-consistent (omega arith, (omega arith, tt))) refl), tt),

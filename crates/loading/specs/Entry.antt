@@ -13,10 +13,12 @@ use Rattle.lists.specs.Search.{upFrom-within}
 use Rattle.lists.specs.Only.{only-not}
 use Rattle.lists.specs.Bytes.{twoAt}
 use Rattle.rules.specs.Model.{places, Model, inbox, thread, line, allPlaces, livesAt, live}
-use Rattle.saving.specs.Format.{livePlaces}
-use Rattle.saving.specs.Longest.{live-length}
-use Rattle.loading.specs.Positions.{offset, live-distinct}
-use Rattle.loading.specs.Reading.{Image, threadIn}
+use Rattle.saving.specs.Format.{headLength, entryLength, inboxLengthAt, bodyLength, livePlaces}
+use Rattle.saving.specs.Longest.{live-length, live-distinct}
+use Rattle.saving.specs.declared.format.Row.{Row}
+use Rattle.loading.specs.Loads.{ImageAs}
+use Rattle.loading.specs.Positions.{offset}
+use Rattle.loading.specs.Reading.{threadIn}
 use Rattle.loading.specs.Finds.{place-is, number-is, offset-is, thread-is, inbox-length, inbox-is}
 
 pub live-low : (m : Model) (p : ℕ) → among p (livePlaces m) ≡ true → p < places
@@ -26,7 +28,7 @@ live-low m p h =
     (λ t. let k = upFrom-within places 0 p (among-some p (upFrom 0 places) t) in omega arith)
     (λ t. never h (only-not (livesAt m) p (upFrom 0 places) t))
 
-module _ {s : List ℕ} {i : ℕ} {m : Model} (I : Image s m) (h : i < live m) where
+module _ {row : Row} {m : Model} {s : List ℕ} (I : ImageAs row m s) {i : ℕ} (h : i < live m) where
   abbrev ps : List ℕ
   ps = livePlaces m
 
@@ -57,30 +59,30 @@ module _ {s : List ℕ} {i : ℕ} {m : Model} (I : Image s m) (h : i < live m) w
   pub p-new : among p qs ≡ false
   p-new = distinct-fore p qs rs (rw split at (live-distinct m))
 
-  pub p-is : getD s (8 + 4 * i) 0 ≡ p
-  p-is = ap (λ (k : ℕ). getD s (8 + 4 * k) 0) (sym before) ∙ place-is I qs p rs split
+  pub p-is : getD s (headLength row + entryLength * i) 0 ≡ p
+  p-is = ap (λ (k : ℕ). getD s (headLength row + entryLength * k) 0) (sym before) ∙ place-is I qs p rs split
 
-  pub n-is : getD s (8 + 4 * i + 1) 0 ≡ thread m p .number
-  n-is = ap (λ (k : ℕ). getD s (8 + 4 * k + 1) 0) (sym before) ∙ number-is I qs p rs split
+  pub n-is : getD s (headLength row + entryLength * i + 1) 0 ≡ thread m p .number
+  n-is = ap (λ (k : ℕ). getD s (headLength row + entryLength * k + 1) 0) (sym before) ∙ number-is I qs p rs split
 
-  pub o-is : twoAt s (8 + 4 * i + 2) ≡ offset m qs
-  o-is = ap (λ (k : ℕ). twoAt s (8 + 4 * k + 2)) (sym before) ∙ offset-is I qs p rs split
+  pub o-is : twoAt s (headLength row + entryLength * i + 2) ≡ offset row m qs
+  o-is = ap (λ (k : ℕ). twoAt s (headLength row + entryLength * k + 2)) (sym before) ∙ offset-is I qs p rs split
 
 -- ---- the same, said of the bytes alone
 
 -- where entry i starts, and where it says that the body starts
-abbrev pub entryAt : ℕ → ℕ
-entryAt i = 8 + 4 * i
+abbrev pub entryAt : Row → ℕ → ℕ
+entryAt row i = headLength row + entryLength * i
 
-abbrev pub bodyAt : List ℕ → ℕ → ℕ
-bodyAt s i = twoAt s (entryAt i + 2)
+abbrev pub bodyAt : Row → List ℕ → ℕ → ℕ
+bodyAt row s i = twoAt s (entryAt row i + 2)
 
-module _ {s : List ℕ} {i : ℕ} {m : Model} (I : Image s m) (h : i < live m) where
-  pub entry-thread : thread m (getD s (entryAt i) 0) ≡ threadIn s (getD s (entryAt i + 1) 0) (bodyAt s i)
+module _ {row : Row} {m : Model} {s : List ℕ} (I : ImageAs row m s) {i : ℕ} (h : i < live m) where
+  pub entry-thread : thread m (getD s (entryAt row i) 0) ≡ threadIn s (getD s (entryAt row i + 1) 0) (bodyAt row s i)
   entry-thread = rw (p-is I h, n-is I h, o-is I h) (sym (thread-is I (take i (livePlaces m)) (getD (livePlaces m) i 0) (drop (suc i) (livePlaces m)) (split I h)))
 
-  entry-inbox-length : getD s (bodyAt s i + 12) 0 ≡ length (line m (inbox (getD (livePlaces m) i 0)))
-  entry-inbox-length = ap (λ (x : ℕ). getD s (x + 12) 0) (o-is I h) ∙ inbox-length I (take i (livePlaces m)) (getD (livePlaces m) i 0) (drop (suc i) (livePlaces m)) (split I h)
+  entry-inbox-length : getD s (bodyAt row s i + inboxLengthAt) 0 ≡ length (line m (inbox (getD (livePlaces m) i 0)))
+  entry-inbox-length = ap (λ (x : ℕ). getD s (x + inboxLengthAt) 0) (o-is I h) ∙ inbox-length I (take i (livePlaces m)) (getD (livePlaces m) i 0) (drop (suc i) (livePlaces m)) (split I h)
 
-  pub entry-inbox : line m (inbox (getD s (entryAt i) 0)) ≡ take (getD s (bodyAt s i + 12) 0) (drop (bodyAt s i + 13) s)
+  pub entry-inbox : line m (inbox (getD s (entryAt row i) 0)) ≡ take (getD s (bodyAt row s i + inboxLengthAt) 0) (drop (bodyAt row s i + bodyLength) s)
   entry-inbox = rw (p-is I h, entry-inbox-length, o-is I h) (sym (inbox-is I (take i (livePlaces m)) (getD (livePlaces m) i 0) (drop (suc i) (livePlaces m)) (split I h)))

@@ -2,11 +2,12 @@
 use mathlib.Core.Path.{_≡_, refl, sym, ap, _∙_}
 use mathlib.Core.List.{List, [], _∷_, _++_}
 use mathlib.Core.Bool.{true, false}
-use Prim.Native.Nat.{ℕ, zero, suc, _≤_, _<_}
+use Prim.Native.Nat.{ℕ, _-_, _≤_, _<_}
 use native.Mathlib.Omega.{arith}
-use lib.Dec.{eqb}
-use borrow.Author.Tests.{eq-eqb, ne-eqb, eqb-true, eqb-false, not-false}
-use Rattle.lists.specs.Lists.{count}
+use lib.Dec.{eqb, ltb}
+use borrow.Author.Tests.{eq-eqb, ne-eqb, lt-ltb, le-ltb, eqb-true, eqb-false, ltb-false, not-false}
+use Rattle.lists.specs.Sizes.{queueCount}
+use Rattle.lists.specs.Lists.{count, among}
 use Rattle.lists.specs.Laws.{by-test, among-last}
 use Rattle.lists.specs.Counts.{count-self}
 use Rattle.lists.specs.Tables.{tab-ext, tab-of}
@@ -19,26 +20,41 @@ use Rattle.table.specs.Cells.{threadOf, modelOf}
 use Rattle.table.specs.Clean.{Sized, Emptied}
 use Rattle.table.specs.Stores.{Stood, Told, Named, Stored, wrote-then, named, stood, heard}
 use Rattle.saving.specs.Format.{livePlaces}
+use Rattle.saving.specs.Queues.{inbox-at, each-line}
 use Rattle.loading.specs.Positions.{live-in}
 use Rattle.loading.specs.Reading.{threadIn, Filed, opened, Seats, Upto}
 
 -- ---- nothing
 
-pub filed-none : (m : Model) {l : List ℕ} → Clear places lineCount l → Filed m (λ q. false) l
-filed-none m k = record { tidy = k .tidy; lines = k .empty }
+pub filed-none : (m : Model) {l : List ℕ} → Clear places lineCount l → Filed m (λ q. ltb q 0) l
+filed-none m k = record { tidy = k .tidy; lines = λ q h. rw (le-ltb q 0 (omega arith)) (k .empty q h) }
 
 pub seats-none : (m : Model) {b w : List ℕ} → Emptied b w places → Seats m [] b w
 seats-none m k = record { sized = k .sized; threads = k .clean }
 
 -- ---- one place more
 
+pub opened-queue : (ps : List ℕ) (q : ℕ) → q < queueCount → opened ps q ≡ true
+opened-queue ps q h = rw (lt-ltb q queueCount h)
+
+pub opened-inbox : (ps : List ℕ) (p : ℕ) → opened ps (inbox p) ≡ among p ps
+opened-inbox ps p =
+    let a = inbox-at p in
+    let e : inbox p - queueCount ≡ p = omega arith in
+    rw (le-ltb (inbox p) queueCount (omega arith), e)
+
 pub opened-here : (p : ℕ) (qs : List ℕ) → opened (qs ++ (p ∷ [])) (inbox p) ≡ true
-opened-here p qs = among-last p p qs ∙ rw (eq-eqb p p refl)
+opened-here p qs = opened-inbox (qs ++ (p ∷ [])) p ∙ among-last p p qs ∙ rw (eq-eqb p p refl)
 
 pub opened-there : (p : ℕ) (qs : List ℕ) (r : ℕ) → (r ≡ inbox p → ⊥) → opened (qs ++ (p ∷ [])) r ≡ opened qs r
-opened-there p qs zero n = refl
-opened-there p qs (suc zero) n = refl
-opened-there p qs (suc (suc r)) n = among-last r p qs ∙ (let z : p ≡ r → ⊥ = λ e. n (ap inbox (sym e)) in rw (ne-eqb p r z))
+opened-there p qs r n =
+    by-test (ltb r queueCount)
+    (λ t. rw t)
+    (λ t.
+    let h = ltb-false r queueCount t in
+    let a = inbox-at p in
+    let z : p ≡ r - queueCount → ⊥ = λ e. n (omega arith) in
+    rw t (among-last (r - queueCount) p qs ∙ rw (ne-eqb p (r - queueCount) z)))
 
 pub seats-more : {m : Model} {qs b w b′ w′ : List ℕ} {p : ℕ} {t : Thread} → Seats m qs b w → Stored b w p (λ _. t) b′ w′ → t ≡ thread m p → Seats m (qs ++ (p ∷ [])) b′ w′
 seats-more {m} {qs} {p = p} S W e = record {
@@ -79,12 +95,14 @@ module _ {m : Model} (C : Consistent m) where
         (λ t. rw t (sym (C .clean p (dead p t)))))
 
     lines-all : (q : ℕ) → q < lineCount → lineOf places l q ≡ line m q
-    lines-all zero h = U .filed .lines zero h
-    lines-all (suc zero) h = U .filed .lines (suc zero) h
-    lines-all (suc (suc p)) h =
-        U .filed .lines (suc (suc p)) h ∙ rw (live-in m p (omega arith)) (by-test (livesAt m p)
+    lines-all =
+        each-line (λ q. lineOf places l q ≡ line m q)
+        (λ q h. U .filed .lines q (omega arith) ∙ rw (opened-queue (livePlaces m) q h))
+        (λ p h.
+        let a = inbox-at p in
+        U .filed .lines (inbox p) (omega arith) ∙ rw (opened-inbox (livePlaces m) p, live-in m p h) (by-test (livesAt m p)
         (λ t. rw t)
-        (λ t. rw t (sym (no-inbox p (dead p t)))))
+        (λ t. rw t (sym (no-inbox p (dead p t))))))
 
     pub all-read : modelOf (m .last) (m .running) b w l ≡ m
     all-read =

@@ -1,3 +1,4 @@
+pub mod Loads
 pub mod Positions
 pub mod Reading
 pub mod Finds
@@ -5,7 +6,6 @@ pub mod Entry
 pub mod Joins
 pub mod Fills
 pub mod Enters
-pub mod Loads
 pub mod Judges
 pub mod Injective
 pub mod Accepts

@@ -12,20 +12,36 @@ use Rattle.rules.specs.Model.{Model}
 use Rattle.rules.specs.Rules.{fresh}
 use Rattle.rules.specs.Consistent.{Consistent}
 use Rattle.nucleus.specs.View.{view, Consists, Shows}
-use Rattle.saving.specs.Format.{edition, headLength, encode}
+use Rattle.saving.specs.Format.{rowOf, Known, Holds, shortestHead, totalAt, headLength, encodeAs}
+use Rattle.saving.specs.declared.format.Row.{Row}
 use Rattle.loading.specs.declared.Loaded.{Loaded}
 
--- Load: 8 for under 8 bytes, 9, 8 for the length field .. (The edition is byte 0, and the total length stands at 6.)
+-- the row of the edition that byte 0 names
+abbrev pub rowAt : List ℕ → Row
+rowAt s = rowOf (getD s 0 0)
+
+-- Load: 8 for under 8 bytes, 9, 8 for the length field .. (After 9, 8 also for bytes that end within that edition's head.)
 abbrev pub headCode : List ℕ → ℕ
 headCode s =
-    cond (ltb (length s) headLength) 8
-    (cond (eqb (getD s 0 0) edition)
-    (cond (eqb (twoAt s 6) (length s)) 0 8)
-    9)
+    cond (ltb (length s) shortestHead) 8
+    (cond (eqb (rowAt s .queues) 0) 9
+    (cond (ltb (length s) (headLength (rowAt s))) 8
+    (cond (eqb (twoAt s (totalAt (rowAt s))) (length s)) 0 8)))
+
+-- the bytes are the image of the consistent m in the edition of the row, which is known and can hold m
+pub record ImageAs (row : Row) (m : Model) (s : List ℕ) : Type 0 where
+  pub known : Known row
+  pub consistent : Consistent m
+  pub holds : Holds row m
+  pub bytes : encodeAs row m ≡ s
+
+-- in some edition
+abbrev pub Image : Model → List ℕ → Type 0
+Image m s = (row : Row) × ImageAs row m s
 
 -- .. 10: the bytes are the image of no consistent state
 abbrev pub Foreign : List ℕ → Type 0
-Foreign s = (m : Model) → Consistent m → encode m ≡ s → ⊥
+Foreign s = (m : Model) → Image m s → ⊥
 
 -- a refusal gives the fresh state
 pub record Refused (code : ℕ) (r : Loaded) : Type 0 where
@@ -36,7 +52,7 @@ pub record Refused (code : ℕ) (r : Loaded) : Type 0 where
 pub record Taken (s : List ℕ) (r : Loaded) : Type 0 where
   pub told : r .code ≡ 0
   pub consists : Consists (r .state)
-  pub image : encode (view (r .state)) ≡ s
+  pub image : Image (view (r .state)) s
 
 -- bytes whose head is in order
 pub data Judged (s : List ℕ) (r : Loaded) : Type 0 where

@@ -3,22 +3,19 @@
 use mathlib.Core.Path.{_≡_}
 use mathlib.Core.List.{List, [], _++_}
 use mathlib.Core.Bool.{Bool, true, cond}
-use Prim.Native.Nat.{ℕ, zero, suc, _+_, _^_, _<_}
+use Prim.Native.Nat.{ℕ, zero, suc, _+_, _*_, _-_, _<_}
+use lib.Dec.{ltb}
 use lib.ListN.{length, take, drop, getD}
+use Rattle.lists.specs.Sizes.{queueCount}
 use Rattle.lists.specs.Lists.{among, Distinct}
 use Rattle.lists.specs.Bytes.{wordAt}
 use Rattle.lines.specs.Lines.{lineOf, Loose, Tidy, Turned, Clear}
 use Rattle.rules.specs.Model.{places, lineCount, Thread, vacant, Model, thread, line, live}
-use Rattle.rules.specs.Consistent.{Consistent}
 use Rattle.table.specs.Cells.{threadOf}
 use Rattle.table.specs.Clean.{Sized}
-use Rattle.saving.specs.Format.{livePlaces, encode}
-
--- the bytes s are the image of the consistent m, and its offsets fit into two bytes
-pub record Image (s : List ℕ) (m : Model) : Type 0 where
-  pub consistent : Consistent m
-  pub bytes : s ≡ encode m
-  pub short : length s < 2 ^ 16
+use Rattle.saving.specs.Format.{lengthsAt, headLength, entryLength, livePlaces}
+use Rattle.saving.specs.declared.format.Row.{Row}
+use Rattle.loading.specs.Loads.{ImageAs}
 
 -- ---- places that go into a line
 
@@ -54,11 +51,9 @@ pub record Filed (m : Model) (f : ℕ → Bool) (l : List ℕ) : Type 0 where
   pub tidy : Tidy places lineCount l
   pub lines : (q : ℕ) → q < lineCount → lineOf places l q ≡ cond (f q) (line m q) []
 
--- ready, clock, and the inboxes of the places ps
+-- the queues, and the inboxes of the places ps
 abbrev pub opened : List ℕ → ℕ → Bool
-opened ps zero = true
-opened ps (suc zero) = true
-opened ps (suc (suc p)) = among p ps
+opened ps q = cond (ltb q queueCount) true (among (q - queueCount) ps)
 
 -- the threads at the places ps are those of m, and the other places are still empty
 pub record Seats (m : Model) (ps b w : List ℕ) : Type 0 where
@@ -70,11 +65,21 @@ pub record Upto (m : Model) (ps b w l : List ℕ) : Type 0 where
   pub seats : Seats m ps b w
   pub filed : Filed m (opened ps) l
 
--- ready and clock have been read
-pub record QueuesRead (s l l′ : List ℕ) : Type 0 where
-  pub filed : (m : Model) → Image s m → Clear places lineCount l → Filed m (opened []) l′
+-- where the places of line q start, by the lengths in the head. (No abbrev: at a numeral q it would unfold q deep wherever it stands.)
+unfoldable pub queueAt : Row → List ℕ → ℕ → ℕ
+queueAt row s zero = headLength row + entryLength * getD s 3 0
+queueAt row s (suc q) = queueAt row s q + getD s (lengthsAt + q) 0
+
+-- the queues before line q have been read
+pub record QueuesUpto (row : Row) (s : List ℕ) (q at : ℕ) (l l′ : List ℕ) : Type 0 where
+  pub from : at ≡ queueAt row s q
+  pub filed : (m : Model) → ImageAs row m s → Clear places lineCount l → Filed m (λ r. ltb r q) l′
+
+-- and all of them
+pub record QueuesRead (row : Row) (s l l′ : List ℕ) : Type 0 where
+  pub filed : (m : Model) → ImageAs row m s → Clear places lineCount l → Filed m (opened []) l′
 
 -- the entries of the contents from i to k have been read
-pub record Entered (s : List ℕ) (i k : ℕ) (b w l b′ w′ l′ : List ℕ) : Type 0 where
+pub record Entered (row : Row) (s : List ℕ) (i k : ℕ) (b w l b′ w′ l′ : List ℕ) : Type 0 where
   pub sized : Sized b′ w′
-  pub reads : (m : Model) → Image s m → k < suc (live m) → Upto m (take i (livePlaces m)) b w l → Upto m (take k (livePlaces m)) b′ w′ l′
+  pub reads : (m : Model) → ImageAs row m s → k < suc (live m) → Upto m (take i (livePlaces m)) b w l → Upto m (take k (livePlaces m)) b′ w′ l′

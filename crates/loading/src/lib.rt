@@ -7,6 +7,8 @@ pub mod bytes;
 mod judge;
 mod read;
 
+pub use judge::row_at;
+
 // What load answers: document 01's code, and the state.
 pub struct Loaded {
     pub code: u8,

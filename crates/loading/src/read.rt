@@ -1,17 +1,20 @@
 // Reading: a candidate is made of any bytes, and no byte is trusted. No rule of the format is tested here, for what is read of bytes that are no image
 // does not matter: load finds out.
-ghost use Prim.Native.Nat.{_+_, _*_, _^_, _<_};
+ghost use Prim.Native.Nat.{_+_, _*_, _^_, _≤_, _<_};
+ghost use Rattle.lists.specs.Sizes.{queueCount};
 ghost use Rattle.table.specs.Clean.{Sized};
 ghost use Rattle.table.specs.Stores.{Stored};
 ghost use Rattle.rules.specs.Model.{places, lineCount, Model};
 ghost use Rattle.nucleus.specs.View.{Shows};
-ghost use Rattle.loading.specs.Reading.{Image, Joined, threadIn, QueuesRead, Entered};
+ghost use Rattle.loading.specs.Reading.{Joined, threadIn, QueuesRead, Entered};
+ghost use Rattle.loading.specs.Loads.{ImageAs};
 use super::bytes;
 use lines::Links;
 use nucleus::State;
 use rules::Number;
 use rules::Place;
 use saving::format;
+use saving::format::Row;
 use table::Blocks;
 use table::Words;
 
@@ -42,11 +45,11 @@ fn seat(image: &[u8], o: usize, p: Place, n: Number, b: &mut Blocks, w: &mut Wor
 }
 
 // Entry i of the contents is read, with the body that it names.
-fn enter(image: &[u8], i: usize, b: &mut Blocks, w: &mut Words, l: &mut Links)
+fn enter(row: Row, image: &[u8], i: usize, b: &mut Blocks, w: &mut Words, l: &mut Links)
     requires { ⌜ (i < 2 ^ 16) × Sized (now b) (now w) ⌝ }
-    ensures { λ r. ⌜ Entered (now (image .entry)) i (i + 1) (now (b .entry)) (now (w .entry)) (now (l .entry)) (now (b .exit)) (now (w .exit)) (now (l .exit)) ⌝ }
+    ensures { λ r. ⌜ Entered row (now (image .entry)) i (i + 1) (now (b .entry)) (now (w .entry)) (now (l .entry)) (now (b .exit)) (now (w .exit)) (now (l .exit)) ⌝ }
 {
-    let entry = format::HEAD + format::ENTRY * i;
+    let entry = format::head_length(row) + format::ENTRY * i;
     let p = bytes::at(image, entry);
     if bytes::wide(p) >= lines::PLACES {
         return;
@@ -59,40 +62,45 @@ fn enter(image: &[u8], i: usize, b: &mut Blocks, w: &mut Words, l: &mut Links)
 }
 
 // Every entry is read.
-fn entries(image: &[u8], n: usize, b: &mut Blocks, w: &mut Words, l: &mut Links)
+fn entries(row: Row, image: &[u8], n: usize, b: &mut Blocks, w: &mut Words, l: &mut Links)
     requires { ⌜ (n < 256) × Sized (now b) (now w) ⌝ }
-    ensures { λ r. ⌜ Entered (now (image .entry)) 0 n (now (b .entry)) (now (w .entry)) (now (l .entry)) (now (b .exit)) (now (w .exit)) (now (l .exit)) ⌝ }
+    ensures { λ r. ⌜ Entered row (now (image .entry)) 0 n (now (b .entry)) (now (w .entry)) (now (l .entry)) (now (b .exit)) (now (w .exit)) (now (l .exit)) ⌝ }
 {
     let mut i = 0;
     while i < n {
-        enter(image, i, b, w, l);
+        enter(row, image, i, b, w, l);
         i += 1;
     }
 }
 
-// Ready and clock are read.
-fn queues(image: &[u8], l: &mut Links)
-    ensures { λ r. ⌜ QueuesRead (now (image .entry)) (now (l .entry)) (now (l .exit)) ⌝ }
+// The queues of the row are read.
+fn queues(row: Row, image: &[u8], l: &mut Links)
+    requires { ⌜ row .queues ≤ queueCount ⌝ }
+    ensures { λ r. ⌜ QueuesRead row (now (image .entry)) (now (l .entry)) (now (l .exit)) ⌝ }
 {
     let live = bytes::wide(bytes::at(image, format::LIVE_AT));
-    let ready = bytes::wide(bytes::at(image, format::READY_AT));
-    let clock = bytes::wide(bytes::at(image, format::CLOCK_AT));
-    let from = format::HEAD + format::ENTRY * live;
-    enqueue(image, from, ready, table::READY_LINE, l);
-    enqueue(image, from + ready, clock, table::CLOCK_LINE, l);
+    let mut from = format::head_length(row) + format::ENTRY * live;
+    let mut q: u8 = 0;
+    while q < row.queues {
+        let count = bytes::wide(bytes::at(image, format::LENGTHS_AT + bytes::wide(q)));
+        enqueue(image, from, count, q, l);
+        from += count;
+        q += 1;
+    }
 }
 
-// The state of which the bytes may be the image. If they are the image of any, it is this one's.
-pub fn candidate(image: &[u8]) -> State
-    ensures { λ r. ⌜ ((m : Model) → Image (now (image .entry)) m → Shows r m) ⌝ }
+// The state of which the bytes may be the image in the edition of the row. If they are the image of any, it is this one's.
+pub fn candidate(row: Row, image: &[u8]) -> State
+    requires { ⌜ row .queues ≤ queueCount ⌝ }
+    ensures { λ r. ⌜ ((m : Model) → ImageAs row m (now (image .entry)) → Shows r m) ⌝ }
 {
     let mut b = [0u8; table::BYTES];
     let mut w = [0u32; table::WORDS];
     table::clear(&mut b, &mut w);
     let mut l = lines::fresh();
-    queues(image, &mut l);
+    queues(row, image, &mut l);
     let n = bytes::wide(bytes::at(image, format::LIVE_AT));
-    entries(image, n, &mut b, &mut w, &mut l);
+    entries(row, image, n, &mut b, &mut w, &mut l);
     let filled = audit::filling(&b);
     let last = bytes::at(image, format::LAST_AT);
     let running = bytes::at(image, format::RUNNING_AT);

@@ -1,7 +1,7 @@
 -- A BOARD THAT COMES BACK (demand 3, as C sees it), boot after boot, as its start code does it: what `rumqatiss_fresh`, `rumqatiss_board` and
 -- `rumqatiss_replay` promise, and nothing else. So the C side need believe nothing but the rules. It begins with the fresh image, or with any image that the
 -- library takes, as one does that the build before an update has left.
-use mathlib.Core.Path.{_≡_, refl, sym, ap, ap₂, _∙_}
+use mathlib.Core.Path.{_≡_, refl, sym, ap, ap₂, subst, _∙_}
 use mathlib.Core.List.{List, [], _∷_, _++_, append-assoc, append-nil}
 use mathlib.Core.Bool.{cond}
 use Prim.Native.Nat.{ℕ, _≤_}
@@ -24,13 +24,15 @@ use Rattle.journal.specs.declared.Read.{Read}
 use Rattle.journal.specs.declared.Read.the-variants.{Record, AtEnd, CutShort, UnknownKind, PastEnd}
 use Rattle.saving.specs.Format.{encode}
 use Rattle.saving.specs.Longest.{longestImage, longest}
+use Rattle.loading.specs.Loads.{Image}
+use Rattle.loading.specs.Judges.{saved-image}
 use Rattle.loading.specs.Accepts.{refuses-not}
-use Rattle.loading.specs.Injective.{encode-injective}
+use Rattle.loading.specs.Injective.{image-one}
 use Rattle.logbook.specs.Log.{limit, Parsed, logOf}
 use Rattle.logbook.specs.Cut.{wholeIn, cutCode, cutAt, fit-append, fit-whole, cut-log}
 use Rattle.logbook.specs.History.{refusal-low, log-append, after-append, whole-log}
 use Rattle.board.specs.Promise.{placed, kept, replayOn, Brings, unread, played, freshOn}
-use Rattle.recovery.specs.Runs.{heard, eventsOf, allEvents, saidOf, allSaid, Calls, calls-bytes, CallsRan, calls-ran}
+use Rattle.recovery.specs.Runs.{heard, eventsOf, allEvents, saidOf, allSaid, Calls, calls-bytes, StandsFor, first-still, saved, stands-image, stands-newest, CallsRan, calls-ran}
 use Rattle.board.specs.declared.Told.{Told}
 use Rattle.board.specs.declared.Brought.{Brought}
 
@@ -77,28 +79,29 @@ logged-all m (rec ∷ recs) b =
     (ap₂ (λ (x y : List ℕ). x ++ y) (o .0) (i .0) ∙ sym (log-append (eventsOf rec) (allEvents recs)), fit-append (eventsOf rec) (allEvents recs) (o .1) (i .1))
 
 -- ---- what a board lives through
--- m: the state that its first image stands for. bs: the events before the image in its store; fs: those since. image: the present one. base, log: what stands
+-- first: its first image, of any edition that is known, and m: the state that this stands for. bs: the events before the image in its store; fs: those since. image: the present one. base, log: what stands
 -- in its store.
-pub data Boarded (m : Model) : List Event → List Event → List ℕ → List ℕ → List ℕ → Type 0 where
+pub data Boarded (first : List ℕ) (m : Model) : List Event → List Event → List ℕ → List ℕ → List ℕ → Type 0 where
   -- it begins: its image is kept with an empty log
-  begun : {image : List ℕ} → encode m ≡ image → Boarded m [] [] image image []
+  begun : Image m first → Boarded first m [] [] first first []
   -- records are handed over one after the other, and logged
-  handed : {bs fs : List Event} {image last base log : List ℕ} {recs : List (List ℕ)} {ts : List Told} → Boarded m bs fs image base log → Calls image recs ts last
-      → Boarded m bs (fs ++ allEvents recs) last base (log ++ logged ts recs)
+  handed : {bs fs : List Event} {image last base log : List ℕ} {recs : List (List ℕ)} {ts : List Told} → Boarded first m bs fs image base log → Calls image recs ts last
+      → Boarded first m bs (fs ++ allEvents recs) last base (log ++ logged ts recs)
   -- the present image takes the place of the one kept, with an empty log
-  renewed : {bs fs : List Event} {image base log : List ℕ} → Boarded m bs fs image base log → Boarded m (bs ++ fs) [] image image []
+  renewed : {bs fs : List Event} {image base log : List ℕ} → Boarded first m bs fs image base log → Boarded first m (bs ++ fs) [] image image []
   -- The power fails, and the first k bytes of the log are left. They are replayed on the image kept, which gives the present one; what stands behind the
   -- records that came back is cut off.
-  booted : {bs fs : List Event} {image base log out buffer : List ℕ} {k : ℕ} {t : Brought} → Boarded m bs fs image base log → k ≤ length log → k ≤ limit → longestImage ≤ length out
-      → Brings base (take k log) out (t, buffer) → Boarded m bs (wholeIn k fs) (take (t .length) buffer) base (take (t .bytes) log)
+  booted : {bs fs : List Event} {image base log out buffer : List ℕ} {k : ℕ} {t : Brought} → Boarded first m bs fs image base log → k ≤ length log → k ≤ limit → longestImage ≤ length out
+      → Brings base (take k log) out (t, buffer) → Boarded first m bs (wholeIn k fs) (take (t .length) buffer) base (take (t .bytes) log)
 
 -- its first boot: the fresh image
-pub first-boot : (out : List ℕ) {a : List ℕ} {c n : ℕ} → longestImage ≤ length out → (c, n, a) ≡ freshOn out → Boarded fresh [] [] (take n a) (take n a) []
+pub first-boot : (out : List ℕ) {a : List ℕ} {c n : ℕ} → longestImage ≤ length out → (c, n, a) ≡ freshOn out → Boarded (encode fresh) fresh [] [] (take n a) (take n a) []
 first-boot out {a} {c} {n} h e =
     let i : List ℕ = encode fresh in
     let l = longest fresh fresh-consistent in
     let w : _≡_ {A = ℕ × ℕ × List ℕ} (c, n, a) (0, length i, i ++ drop (length i) out) = rw (le-ltb (length out) (length i) (omega arith)) at e in
-    begun (sym (take-at i (drop (length i) out) (length i) refl) ∙ ap (λ (x : ℕ × ℕ × List ℕ). take (x .1) (x .2)) (sym w))
+    let e : encode fresh ≡ take n a = sym (take-at i (drop (length i) out) (length i) refl) ∙ ap (λ (x : ℕ × ℕ × List ℕ). take (x .1) (x .2)) (sym w) in
+    subst (λ (x : List ℕ). Boarded i fresh [] [] x x []) e (begun (saved-image fresh-consistent refl))
 
 -- ---- what comes back
 -- bs: the events before the image kept. whole: those of the log whose records are whole in the cut, of k bytes.
@@ -116,20 +119,20 @@ kept-back : (m : Model) (p : Parsed) (out : List ℕ) → Consistent (after (p .
 unfolding kept
 kept-back m p out C h = let l = longest (after (p .events) m) C in rw (le-ltb (length out) (length (encode (after (p .events) m))) (omega arith)) refl
 
--- on an image that stands for m
-brings : (m : Model) → Consistent m → (es : List Event) → AllFit es → (k : ℕ) → k ≤ length (logOf es) → k ≤ limit → {image out : List ℕ} {t : Brought × List ℕ} → encode m ≡ image → longestImage ≤ length out
+-- on an image of m
+brings : (m : Model) → (es : List Event) → AllFit es → (k : ℕ) → k ≤ length (logOf es) → k ≤ limit → {image out : List ℕ} {t : Brought × List ℕ} → Image m image → longestImage ≤ length out
     → Brings image (take k (logOf es)) out t → t ≡ kept m (cutAt k es) out
-brings m C es f k h g e w (unread c R q) = absurd (refuses-not R (m, C, e))
-brings m C es f k h g {out = out} e w (played n D d q) =
-    let x : n ≡ m = encode-injective n m D C (d ∙ sym e) in
+brings m es f k h g I w (unread c R q) = absurd (refuses-not R (m, I))
+brings m es f k h g {out = out} I w (played n J q) =
+    let x : n ≡ m = image-one J I in
     let l = length-take k (logOf es) in
     q ∙ ap (λ (m : Model). replayOn m (take k (logOf es)) out) x ∙ rw (le-ltb limit (length (take k (logOf es))) (omega arith)) (ap (λ (p : Parsed). kept m p out) (cut-log es f k h))
 
 -- ---- at any time the images are those of the rules' states, and the log is that of the history
-module _ {m : Model} (C : Consistent m) where
+module _ (first : List ℕ) {m : Model} (C : Consistent m) where
   record InStep (bs fs : List Event) (image base log : List ℕ) : Type 0 where
-    present : image ≡ encode (after (bs ++ fs) m)
-    at-save : base ≡ encode (after bs m)
+    present : StandsFor first (after (bs ++ fs) m) image
+    at-save : StandsFor first (after bs m) base
     records : log ≡ logOf fs
     before : AllFit bs
     since : AllFit fs
@@ -144,7 +147,7 @@ module _ {m : Model} (C : Consistent m) where
       let F : Brings base (take k (logOf fs)) out (t, buffer) = rw (S .records) at R in
       let j : k ≤ length (logOf fs) = rw (S .records) at h in
       let D : Consistent (after es n) = always es n K (fit-whole k fs (S .since)) in
-      let q = brings n K fs (S .since) k j g (sym (S .at-save)) w F ∙ kept-back n (cutAt k fs) out D w in
+      let q = brings n fs (S .since) k j g (stands-image (S .at-save)) w F ∙ kept-back n (cutAt k fs) out D w in
       let z : after es n ≡ after (bs ++ es) m = sym (after-append bs es m) in
       let i : List ℕ = encode (after es n) in
       record {
@@ -158,12 +161,12 @@ module _ {m : Model} (C : Consistent m) where
 
   -- what is handed over to its present image
   runs-on : {bs fs : List Event} {image base log last : List ℕ} {recs : List (List ℕ)} {ts : List Told} → InStep bs fs image base log → Calls image recs ts last
-      → CallsRan (after (bs ++ fs) m) recs ts last
-  runs-on {bs} {fs} S k = calls-ran (after (bs ++ fs) m) (always (bs ++ fs) m C (fit-append bs fs (S .before) (S .since))) (sym (S .present)) k
+      → CallsRan first (after (bs ++ fs) m) recs ts last
+  runs-on {bs} {fs} S k = calls-ran (after (bs ++ fs) m) (S .present) k
 
-  in-step : {bs fs : List Event} {image base log : List ℕ} → Boarded m bs fs image base log → InStep bs fs image base log
-  in-step (begun e) = record { present = sym e; at-save = sym e; records = refl; before = tt {0}; since = tt {0} }
-  in-step (handed {bs = bs} {fs = fs} {recs = recs} {ts = ts} B k) =
+  in-step : {bs fs : List Event} {image base log : List ℕ} → Boarded first m bs fs image base log → InStep bs fs image base log
+  in-step (begun I) = record { present = first-still I refl; at-save = first-still I refl; records = refl; before = tt {0}; since = tt {0} }
+  in-step (handed {bs = bs} {fs = fs} {last = last} {recs = recs} {ts = ts} B k) =
       let S = in-step B in
       let R = runs-on S k in
       let L = logged-all (after (bs ++ fs) m) recs (calls-bytes k) in
@@ -171,26 +174,26 @@ module _ {m : Model} (C : Consistent m) where
       let h : after (allEvents recs) (after (bs ++ fs) m) ≡ after (bs ++ (fs ++ allEvents recs)) m =
       sym (after-append (bs ++ fs) (allEvents recs) m) ∙ ap (λ (l : List Event). after l m) (append-assoc bs fs (allEvents recs)) in
       record {
-        present = R .image ∙ ap encode h;
+        present = subst (λ (x : Model). StandsFor first x last) h (R .image);
         at-save = S .at-save;
         records = ap₂ (λ (x y : List ℕ). x ++ y) (S .records) new ∙ sym (log-append fs (allEvents recs));
         before = S .before;
         since = fit-append fs (allEvents recs) (S .since) (L .1);
       }
-  in-step (renewed {bs = bs} {fs = fs} B) =
+  in-step (renewed {bs = bs} {fs = fs} {image = image} B) =
       let S = in-step B in
       record {
-        present = S .present ∙ ap (λ (l : List Event). encode (after l m)) (sym (append-nil (bs ++ fs)));
+        present = subst (λ (l : List Event). StandsFor first (after l m) image) (sym (append-nil (bs ++ fs))) (S .present);
         at-save = S .present;
         records = refl;
         before = fit-append bs fs (S .before) (S .since);
         since = tt {0};
       }
-  in-step (booted {fs = fs} {k = k} B h g w r) =
+  in-step (booted {bs = bs} {fs = fs} {k = k} B h g w r) =
       let S = in-step B in
       let b = comes-back S k h g w r in
       record {
-        present = b .image;
+        present = saved (always (bs ++ wholeIn k fs) m C (fit-append bs (wholeIn k fs) (S .before) (fit-whole k fs (S .since)))) (b .image);
         at-save = S .at-save;
         records = ap₂ (λ (n : ℕ) (l : List ℕ). take n l) (b .bytes) (S .records) ∙ whole-log k fs;
         before = S .before;
@@ -198,13 +201,17 @@ module _ {m : Model} (C : Consistent m) where
       }
 
 -- ---- the theorems
-module _ {m : Model} {bs fs : List Event} {image base log : List ℕ} (C : Consistent m) (life : Boarded m bs fs image base log) where
+module _ {first : List ℕ} {m : Model} {bs fs : List Event} {image base log : List ℕ} (C : Consistent m) (life : Boarded first m bs fs image base log) where
   -- Whatever is handed over, at any time of its life: images, codes, choices and numbers are those of the rules, for the history so far.
-  pub board-runs : {last : List ℕ} {recs : List (List ℕ)} {ts : List Told} → Calls image recs ts last → CallsRan (after (bs ++ fs) m) recs ts last
-  board-runs = runs-on C (in-step C life)
+  pub board-runs : {last : List ℕ} {recs : List (List ℕ)} {ts : List Told} → Calls image recs ts last → CallsRan first (after (bs ++ fs) m) recs ts last
+  board-runs = runs-on first C (in-step first C life)
+
+  -- And where its first image was of the newest edition, the last is what is saved of the rules' state.
+  pub board-saves : encode m ≡ first → {last : List ℕ} {recs : List (List ℕ)} {ts : List Told} → Calls image recs ts last → last ≡ encode (after (allEvents recs) (after (bs ++ fs) m))
+  board-saves e k = stands-newest C e (board-runs k .image)
 
   -- Whenever the power fails: the image kept, and the log cut at any byte, bring back the image of the rules' state after the events before the image, and
   -- those of the log that are whole.
   pub board-back : (k : ℕ) → k ≤ length log → k ≤ limit → {out buffer : List ℕ} {t : Brought} → longestImage ≤ length out → Brings base (take k log) out (t, buffer)
       → Restored m bs (wholeIn k fs) k t buffer
-  board-back = comes-back C (in-step C life)
+  board-back = comes-back first C (in-step first C life)

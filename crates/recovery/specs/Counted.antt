@@ -7,7 +7,7 @@ use Rattle.rules.specs.Model.{allPlaces}
 use Rattle.rules.specs.Rules.{firstFree}
 use Rattle.rules.specs.Counted.{Seen, Case, found, cases}
 use Rattle.journal.specs.Format.{lengthOf, eventOf, readFrom, readAt}
-use Rattle.saving.specs.Format.{encode}
+use Rattle.saving.specs.Format.{queuesIn, encodeAs, encode}
 use Rattle.loading.specs.Counted.{CountedImage, state, images}
 use Rattle.logbook.specs.Log.{parsed}
 use Rattle.logbook.specs.Counted.{Row, CountedReplay, logs, found as replayed}
@@ -40,5 +40,5 @@ unfoldable pub table : List Counted
 table = map events cases ++ (map image images ++ map log logs)
 
 pub counted : map computed table ≡ map stated table
-unfolding table cases images logs encode allPlaces tally firstFree parsed lengthOf eventOf readFrom readAt
+unfolding table cases images logs encodeAs queuesIn allPlaces tally firstFree parsed lengthOf eventOf readFrom readAt
 counted = refl

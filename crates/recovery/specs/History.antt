@@ -17,6 +17,7 @@ use Rattle.nucleus.specs.declared.Reply.{Reply}
 use Rattle.saving.specs.Format.{encode}
 use Rattle.saving.specs.Save.{Saves}
 use Rattle.loading.specs.Loads.{Loads}
+use Rattle.loading.specs.Judges.{saved-image}
 use Rattle.loading.specs.Accepts.{accepts, loads-back}
 use Rattle.loading.specs.RoundTrip.{front-image}
 use Rattle.loading.specs.declared.Loaded.{Loaded}
@@ -73,10 +74,11 @@ module _ {es bs fs : List Event} {image log : List ℕ} {q : ℕ} (G : Good es b
   comes-back : (k : ℕ) → k ≤ q → {l : Loaded} {r : Replayed} → Loads image l → Replays (l .state) (take k log) r → Back bs (wholeIn k fs) k l r
   comes-back k h L R =
       let C : Consistent (after bs fresh) = always bs fresh fresh-consistent (G .fits) in
-      let a = holds-replayed (G .holds) (loads-back (after bs fresh) C (G .is-image) L) k h R in
+      let I = saved-image C (G .is-image) in
+      let a = holds-replayed (G .holds) (loads-back (after bs fresh) I L) k h R in
       let m : after (wholeIn k fs) (after bs fresh) ≡ after (bs ++ wholeIn k fs) fresh = sym (after-append bs (wholeIn k fs) fresh) in
       record {
-        loaded = accepts L .1 (after bs fresh, C, G .is-image);
+        loaded = accepts L .1 (after bs fresh, I);
         state = record { consists = a .state .consists; seen = a .state .seen ∙ m };
         choice = a .choice ∙ ap choice m;
         records = a .records;

@@ -1,5 +1,5 @@
 -- A BOARD THAT RUNS: any records handed over one after the other, each with the image that the last accepted call gave and a buffer with room. The images are
--- those of the rules' states for that history, and codes, choices and numbers are the rules'. From the first boot on, power failures among them: Boots.antt.
+-- those of the rules' states for that history, and codes, choices and numbers are the rules'. (The first image may be of any edition that is known.) From the first boot on, power failures among them: Boots.antt.
 use mathlib.Core.Path.{_≡_, refl, sym, ap, ap₂, subst, _∙_}
 use mathlib.Core.Logic.{_≢_}
 use mathlib.Core.List.{List, [], _∷_, _++_}
@@ -25,8 +25,10 @@ use Rattle.journal.specs.declared.Read.{Read}
 use Rattle.journal.specs.declared.Read.the-variants.{Record, AtEnd, CutShort, UnknownKind, PastEnd}
 use Rattle.saving.specs.Format.{encode}
 use Rattle.saving.specs.Longest.{longestImage, longest}
+use Rattle.loading.specs.Loads.{Image}
+use Rattle.loading.specs.Judges.{saved-image}
 use Rattle.loading.specs.Accepts.{refuses-not}
-use Rattle.loading.specs.Injective.{encode-injective}
+use Rattle.loading.specs.Injective.{image-one}
 use Rattle.logbook.specs.History.{after-append}
 use Rattle.board.specs.Promise.{declined, acted, badCode, taken, stepOn, Boards, unloaded, stepped}
 use Rattle.board.specs.declared.Told.{Told}
@@ -140,14 +142,14 @@ read-step m CutShort size out C f h = bad-step m out (λ w. omega arith)
 read-step m UnknownKind size out C f h = bad-step m out (λ w. omega arith)
 read-step m PastEnd size out C f h = bad-step m out (λ w. omega arith)
 
--- an image that stands for m takes a record
-step-on : (m : Model) {image rec out : List ℕ} {t : Told × List ℕ} → Consistent m → encode m ≡ image → Bytes rec → longestImage ≤ length out → Boards image rec out t
+-- an image of m takes a record
+step-on : (m : Model) {image rec out : List ℕ} {t : Told × List ℕ} → Image m image → Bytes rec → longestImage ≤ length out → Boards image rec out t
     → Step m (after (eventsOf rec) m) (said m rec) out t
-step-on m C e b h (unloaded c R g) = absurd (refuses-not R (m, C, e))
-step-on m {rec = rec} {out = out} {t = t} C e b h (stepped n D f g) =
-    let k : n ≡ m = encode-injective n m D C (f ∙ sym e) in
+step-on m I b h (unloaded c R g) = absurd (refuses-not R (m, I))
+step-on m {rec = rec} {out = out} {t = t} I b h (stepped n J g) =
+    let k : n ≡ m = image-one J I in
     let w : t ≡ stepOn m rec out = g ∙ ap (λ (m : Model). stepOn m rec out) k in
-    subst (Step m (after (eventsOf rec) m) (said m rec) out) (sym w) (read-step m (readAt rec 0) (length rec) out C (λ e n q. read-whole rec 0 e n b q .fits) h)
+    subst (Step m (after (eventsOf rec) m) (said m rec) out) (sym w) (read-step m (readAt rec 0) (length rec) out (I .1 .consistent) (λ e n q. read-whole rec 0 e n b q .fits) h)
 
 heard-consistent : (m : Model) (r : Read) (size : ℕ) → Consistent m → ((e : Event) (n : ℕ) → r ≡ Record e n → Fits e) → Consistent (after (heard r size) m)
 heard-consistent m (Record e n) size C f = by-test (eqb n size) (λ t. rw t (keeps e m C (f e n refl))) (λ t. rw t C)
@@ -156,25 +158,47 @@ heard-consistent m CutShort size C f = C
 heard-consistent m UnknownKind size C f = C
 heard-consistent m PastEnd size C f = C
 
+-- ---- what an image stands for
+-- A board has begun with the image `first`, of any edition. Now its image stands for m: it is the first one still, or what is saved of m.
+pub data StandsFor (first : List ℕ) (m : Model) (image : List ℕ) : Type 0 where
+  first-still : Image m image → image ≡ first → StandsFor first m image
+  saved : Consistent m → image ≡ encode m → StandsFor first m image
+
+pub stands-image : {first image : List ℕ} {m : Model} → StandsFor first m image → Image m image
+stands-image (first-still I e) = I
+stands-image (saved C e) = saved-image C (sym e)
+
+pub stands-consistent : {first image : List ℕ} {m : Model} → StandsFor first m image → Consistent m
+stands-consistent k = stands-image k .1 .consistent
+
+-- where the first one is of the newest edition, every one is
+pub stands-newest : {first image : List ℕ} {m k : Model} → Consistent k → encode k ≡ first → StandsFor first m image → image ≡ encode m
+stands-newest D f (first-still I e) = e ∙ sym f ∙ ap encode (image-one (saved-image D (f ∙ sym e)) I)
+stands-newest D f (saved C e) = e
+
 -- ---- all of them, from an image that stands for m
-pub record CallsRan (m : Model) (recs : List (List ℕ)) (ts : List Told) (last : List ℕ) : Type 0 where
-  pub image : last ≡ encode (after (allEvents recs) m)
+pub record CallsRan (first : List ℕ) (m : Model) (recs : List (List ℕ)) (ts : List Told) (last : List ℕ) : Type 0 where
+  pub image : StandsFor first (after (allEvents recs) m) last
   pub answers : ts ≡ allSaid m recs
   pub consistent : Consistent (after (allEvents recs) m)
 
-pub calls-ran : {image last : List ℕ} {recs : List (List ℕ)} {ts : List Told} (m : Model) → Consistent m → encode m ≡ image → Calls image recs ts last → CallsRan m recs ts last
-calls-ran m C e over = record { image = sym e; answers = refl; consistent = C }
-calls-ran m C e (accepted {rec = rec} {recs = recs} b h k z rest) =
-    let s = step-on m C e b h k in
+-- one more before them
+ran-on : {first last rec : List ℕ} {recs : List (List ℕ)} {t : Told} {ts : List Told} {m : Model} → after (eventsOf rec ++ allEvents recs) m ≡ after (allEvents recs) (after (eventsOf rec) m) → t ≡ said m rec
+    → CallsRan first (after (eventsOf rec) m) recs ts last → CallsRan first m (rec ∷ recs) (t ∷ ts) last
+ran-on {first} {last} e f r = record {
+  image = subst (λ (x : Model). StandsFor first x last) (sym e) (r .image);
+  answers = ap₂ (λ (t : Told) (ts : List Told). t ∷ ts) f (r .answers);
+  consistent = subst Consistent (sym e) (r .consistent);
+}
+
+pub calls-ran : {first image last : List ℕ} {recs : List (List ℕ)} {ts : List Told} (m : Model) → StandsFor first m image → Calls image recs ts last → CallsRan first m recs ts last
+calls-ran m S over = record { image = S; answers = refl; consistent = stands-consistent S }
+calls-ran m S (accepted {rec = rec} {recs = recs} b h k z rest) =
+    let s = step-on m (stands-image S) b h k in
     let n : Model = after (eventsOf rec) m in
-    let r = calls-ran n (heard-consistent m (readAt rec 0) (length rec) C (λ e n q. read-whole rec 0 e n b q .fits)) (sym (s .image z)) rest in
-    record { image = r .image ∙ ap encode (sym (after-append (eventsOf rec) (allEvents recs) m)); answers = ap₂ (λ (t : Told) (ts : List Told). t ∷ ts) (s .same) (r .answers); consistent = rw (after-append (eventsOf rec) (allEvents recs) m) (r .consistent) }
-calls-ran m C e (refused {rec = rec} {recs = recs} b h k z rest) =
-    let s = step-on m C e b h k in
-    let q = s .still z .0 in
-    let r = calls-ran m C e rest in
-    record {
-      image = r .image ∙ ap (λ (x : Model). encode (after (allEvents recs) x)) (sym q) ∙ ap encode (sym (after-append (eventsOf rec) (allEvents recs) m));
-      answers = ap₂ (λ (t : Told) (ts : List Told). t ∷ ts) (s .same) (r .answers ∙ ap (λ (x : Model). allSaid x recs) (sym q));
-      consistent = rw (after-append (eventsOf rec) (allEvents recs) m, q) (r .consistent);
-    }
+    let r = calls-ran n (saved (heard-consistent m (readAt rec 0) (length rec) (stands-consistent S) (λ e n q. read-whole rec 0 e n b q .fits)) (s .image z)) rest in
+    ran-on (after-append (eventsOf rec) (allEvents recs) m) (s .same) r
+calls-ran {first} {last = last} m S (refused {rec = rec} {recs = recs} {ts = ts} b h k z rest) =
+    let s = step-on m (stands-image S) b h k in
+    let r = subst (λ (x : Model). CallsRan first x recs ts last) (sym (s .still z .0)) (calls-ran m S rest) in
+    ran-on (after-append (eventsOf rec) (allEvents recs) m) (s .same) r

@@ -7,6 +7,7 @@ use native.Mathlib.Omega.{arith}
 use lib.ListN.{length, length-append}
 use borrow.Author.Tests.{eq-eqb, ne-eqb}
 use lib.Dec.{eqb}
+use Rattle.lists.specs.Sizes.{queueCount}
 use Rattle.lists.specs.Lists.{none}
 use Rattle.lists.specs.Bytes.{twoBytes}
 use Rattle.lists.specs.Laid.{Wrote, laid-none, laid-length, wrote-then}
@@ -14,8 +15,9 @@ use Rattle.lines.specs.Lines.{lineOf, Tidy}
 use Rattle.rules.specs.Model.{Place, places, lineCount, Empty, Thread, Model, inbox, line, livesAt}
 use Rattle.table.specs.Cells.{threadOf}
 use Rattle.table.specs.Rows.{thread-at, line-at}
-use Rattle.saving.specs.Format.{threadBytes, bodyOf, bodies, contents}
-use Rattle.saving.specs.Longest.{longestImage, bodyLength}
+use Rattle.saving.specs.Format.{bodyLength, threadBytes, bodyOf, bodies, contents}
+use Rattle.saving.specs.Queues.{inbox-at}
+use Rattle.saving.specs.Longest.{longestImage}
 use Rattle.saving.specs.Parts.{held, here, bodyIn}
 
 -- the entry of p, if it lives, was written at a position, for a body at o; now the position is r, and the next body at u
@@ -53,16 +55,16 @@ module _ (b w l : List ℕ) (p : Place) (h : p < places) {t : Thread} (e : t ≡
     one-here : here (held b w l) p ≡ p ∷ []
     one-here = rw (lives, ne-eqb (t .standing) Empty z)
 
-    inbox-is : line (held b w l) (inbox p) ≡ lineOf places l (2 + p)
-    inbox-is = let i : inbox p ≡ 2 + p = omega arith in rw (line-at none none b w l (inbox p) (omega arith), i)
+    inbox-is : line (held b w l) (inbox p) ≡ lineOf places l (queueCount + p)
+    inbox-is = let i = inbox-at p in rw (line-at none none b w l (inbox p) (omega arith), i)
 
-    pub body-one : bodyIn b w l p ≡ threadBytes t ++ (length (lineOf places l (2 + p)) ∷ lineOf places l (2 + p))
+    pub body-one : bodyIn b w l p ≡ threadBytes t ++ (length (lineOf places l (queueCount + p)) ∷ lineOf places l (queueCount + p))
     body-one = ap (bodies (held b w l)) one-here ∙ append-nil (bodyOf (held b w l) p) ∙ rw (inbox-is, thread-at none none b w l p h, e)
 
     pub entry-one : (o : ℕ) → contents (held b w l) o (here (held b w l) p) ≡ p ∷ t .number ∷ twoBytes o
     entry-one o = ap (contents (held b w l) o) one-here ∙ rw (thread-at none none b w l p h, e)
 
-    size : length (bodyIn b w l p) ≡ bodyLength + length (lineOf places l (2 + p))
+    size : length (bodyIn b w l p) ≡ bodyLength + length (lineOf places l (queueCount + p))
     size = ap length body-one ∙ simp length-append (omega arith)
 
     module _ (s : List ℕ) (at : ℕ) (room : at + length (bodyIn b w l p) ≤ length s) where
@@ -70,15 +72,15 @@ module _ (b w l : List ℕ) (p : Place) (h : p < places) {t : Thread} (e : t ≡
       thread-room = let k = size in omega arith
 
       module _ {s′ : List ℕ} {r : ℕ} (q : Wrote s at (threadBytes t) s′ r) where
-        pub inbox-room : r + 1 + length (lineOf places l (2 + p)) ≤ length s′
+        pub inbox-room : r + 1 + length (lineOf places l (queueCount + p)) ≤ length s′
         inbox-room = let k = size in let i = q .next in let j = ap length (q .bytes) ∙ laid-length s at (threadBytes t) thread-room in omega arith
 
-        pub body-whole : {u : List ℕ} {v : ℕ} → Wrote s′ r (length (lineOf places l (2 + p)) ∷ lineOf places l (2 + p)) u v → Wrote s at (bodyIn b w l p) u v
+        pub body-whole : {u : List ℕ} {v : ℕ} → Wrote s′ r (length (lineOf places l (queueCount + p)) ∷ lineOf places l (queueCount + p)) u v → Wrote s at (bodyIn b w l p) u v
         body-whole i = rw body-one (wrote-then q i (let k = size in omega arith))
 
     module _ {s : List ℕ} {at o : ℕ} (k : PutsEntry b w l p s at o) {x : List ℕ} (i : x ≡ p ∷ t .number ∷ twoBytes o) where
       pub entry-room : at + length x ≤ length s
       entry-room = let j = ap length i in let f = ap length (entry-one o) in let g = k .room in omega arith
 
-      pub entry-whole : {u : List ℕ} {r n v : ℕ} → Wrote s at x u r → n ≡ length (lineOf places l (2 + p)) → v ≡ n → EntryPut (held b w l) p s at o u r (o + bodyLength + v)
+      pub entry-whole : {u : List ℕ} {r n v : ℕ} → Wrote s at x u r → n ≡ length (lineOf places l (queueCount + p)) → v ≡ n → EntryPut (held b w l) p s at o u r (o + bodyLength + v)
       entry-whole q f g = record { wrote = rw (entry-one o, ← i) q; body = let j = size in omega arith }

@@ -1,20 +1,65 @@
--- THE IMAGE (document 01, "The image and the log"), in the document's order and words. Saving, loading and looking up are all held to this one text.
-use Prim.Native.Nat.{ℕ, _+_, _*_}
+-- THE IMAGE (document 01, "The image and the log"), in the document's order and words. Saving, loading and looking up are all held to this one text, and so is
+-- every edition: what an edition has of the format is its row of the table.
+use Prim.Native.Nat.{ℕ, _+_, _*_, _≤_, _<_}
+use mathlib.Core.Path.{_≡_}
 use mathlib.Core.List.{List, [], _∷_, _++_}
-use lib.ListN.{length}
-use Rattle.lists.specs.Lists.{only}
+use lib.ListN.{length, getD}
+use Rattle.lists.specs.Sizes.{queueCount}
+use Rattle.lists.specs.Lists.{upFrom, only}
 use Rattle.lists.specs.Bytes.{twoBytes, wordBytes}
-use Rattle.rules.specs.Model.{Place, Thread, Model, ready, clock, inbox, thread, line, allPlaces, livesAt, live}
+use Rattle.rules.specs.Model.{Place, Thread, Model, inbox, thread, line, allPlaces, livesAt, live}
+use Rattle.saving.specs.declared.format.Row.{Row}
 
-abbrev pub edition : ℕ
-edition = 1
+-- ---- the table of editions
+-- How many queues each edition has, by its number: edition 1 has ready and clock. An edition that has none is not known.
+abbrev pub queuesBy : List ℕ
+queuesBy = 0 ∷ 2 ∷ []
 
-abbrev pub headLength : ℕ
-headLength = 8
+unfoldable pub queuesOf : ℕ → ℕ
+queuesOf e = getD queuesBy e 0
+
+-- the row of an edition: its number, and how many queues it has, which are the lines 0, 1, ..
+abbrev pub rowOf : ℕ → Row
+rowOf e = record { edition = e; queues = queuesOf e }
+
+pub record Known (row : Row) : Type 0 where
+  pub listed : row .queues ≡ queuesOf (row .edition)
+  pub some : 0 < row .queues
+
+-- the newest edition, which a save writes, has every queue
+abbrev pub newest : Row
+newest = record { edition = 1; queues = queueCount }
+
+-- What a row does not have is empty in a model that it can hold.
+abbrev pub Holds : Row → Model → Type 0
+Holds row m = (q : ℕ) → row .queues ≤ q → q < queueCount → line m q ≡ []
+
+-- ---- the lengths of the parts
+-- the head has four bytes, one for each queue, and two
+abbrev pub lengthsAt : ℕ
+lengthsAt = 4
+
+abbrev pub totalAt : Row → ℕ
+totalAt row = lengthsAt + row .queues
+
+abbrev pub headLength : Row → ℕ
+headLength row = totalAt row + 2
+
+-- no edition's head is shorter than that of edition 1
+abbrev pub shortestHead : ℕ
+shortestHead = 8
 
 abbrev pub entryLength : ℕ
 entryLength = 4
 
+-- a body without its inbox: 13 bytes, of which the last is the inbox length
+abbrev pub inboxLengthAt : ℕ
+inboxLengthAt = 12
+
+abbrev pub bodyLength : ℕ
+bodyLength = inboxLengthAt + 1
+
+-- ---- the parts
 -- the live threads' places, by rising place
 abbrev pub livePlaces : Model → List Place
 livePlaces m = only (livesAt m) allPlaces
@@ -36,24 +81,42 @@ abbrev pub contents : Model → ℕ → List Place → List ℕ
 contents m o [] = []
 contents m o (p ∷ ps) = p ∷ thread m p .number ∷ twoBytes o ++ contents m (o + length (bodyOf m p)) ps
 
+-- the queues of a row, by rising line. (No abbrev: of a row of numerals it would be written out wherever it stands.)
+unfoldable pub queuesIn : Row → List ℕ
+queuesIn row = upFrom 0 (row .queues)
+
+-- how long each of these lines is, and their places, front first, one line behind the other
+abbrev pub sizes : (ℕ → List Place) → List ℕ → List ℕ
+sizes f [] = []
+sizes f (q ∷ qs) = length (f q) ∷ sizes f qs
+
+abbrev pub joined : (ℕ → List Place) → List ℕ → List Place
+joined f [] = []
+joined f (q ∷ qs) = f q ++ joined f qs
+
+abbrev pub lengths : Row → Model → List ℕ
+lengths row m = sizes (line m) (queuesIn row)
+
 -- Bodies, no gaps: ready places front first; clock places; then each thread.
-abbrev pub queues : Model → List Place
-queues m = line m ready ++ line m clock
+abbrev pub queues : Row → Model → List Place
+queues row m = joined (line m) (queuesIn row)
 
 -- where the first thread's body starts
-abbrev pub firstBody : Model → ℕ
-firstBody m = headLength + entryLength * length (livePlaces m) + length (queues m)
+abbrev pub firstBody : Row → Model → ℕ
+firstBody row m = headLength row + entryLength * length (livePlaces m) + length (queues row m)
 
 -- all behind the head
-abbrev pub tail : Model → List ℕ
-tail m = contents m (firstBody m) (livePlaces m) ++ (queues m ++ bodies m (livePlaces m))
+abbrev pub tail : Row → Model → List ℕ
+tail row m = contents m (firstBody row m) (livePlaces m) ++ (queues row m ++ bodies m (livePlaces m))
 
--- Head, 8 bytes: edition 1, last number, running place or 255, live count, ready length, clock length, total length (2 bytes).
-abbrev pub head : Model → List ℕ
-head m =
-    edition ∷ m .last ∷ m .running ∷ live m ∷ length (line m ready) ∷ length (line m clock)
-    ∷ twoBytes (headLength + length (tail m))
+-- Head: edition, last number, running place or 255, live count, ready length, clock length, total length (2 bytes). (8 bytes in edition 1.)
+abbrev pub head : Row → Model → List ℕ
+head row m = row .edition ∷ m .last ∷ m .running ∷ live m ∷ lengths row m ++ twoBytes (headLength row + length (tail row m))
 
 -- A table of contents comes first, then the bodies. (No abbrev: it would be written out wherever it stands.)
-unfoldable pub encode : Model → List ℕ
-encode m = head m ++ tail m
+unfoldable pub encodeAs : Row → Model → List ℕ
+encodeAs row m = head row m ++ tail row m
+
+-- what is saved
+abbrev pub encode : Model → List ℕ
+encode m = encodeAs newest m

@@ -1,4 +1,6 @@
 pub mod Format
+pub mod Editions
+pub mod Queues
 pub mod Longest
 pub mod Lining
 pub mod Parts

@@ -1,35 +1,41 @@
--- How long an image is: its parts, and that none is longer than 584 bytes. A place stands in one line at most, so all lines together are no longer than one could be.
-use Prim.Native.Nat.{ℕ, zero, suc, _+_, _*_, _≤_, _<_}
+-- How long an image is: its parts, and that none is longer than the longest. A place stands in one line at most, so all lines together are no longer than one
+-- could be.
+use Prim.Native.Nat.{ℕ, _+_, _*_, _≤_, _<_}
 use mathlib.Core.Path.{_≡_, refl, sym, ap, _∙_}
-use mathlib.Core.List.{List, [], _∷_, _++_}
-use mathlib.Core.Bool.{Bool, true, false}
+use mathlib.Core.List.{List, [], _∷_, _++_, map}
+use mathlib.Core.Bool.{true, false}
 use native.Mathlib.Omega.{arith}
 use lib.ListN.{length, length-append}
-use Rattle.lists.specs.Lists.{count, among, upFrom, only}
-use Rattle.lists.specs.Laws.{by-test, not-append}
-use Rattle.lists.specs.Counts.{count-append, among-none, count-distinct}
+use Rattle.lists.specs.Sizes.{queueCount}
+use Rattle.lists.specs.Lists.{count, among, Distinct, upFrom}
+use Rattle.lists.specs.Laws.{by-test, not-head, not-tail, not-cons, not-append, is-head, is-tail}
+use Rattle.lists.specs.Counts.{count-append, among-none, among-some, count-distinct}
+use Rattle.lists.specs.Search.{upFrom-distinct, upFrom-within}
 use Rattle.lists.specs.Without.{pigeon}
-use Rattle.lists.specs.Only.{only-few, only-tally}
+use Rattle.lists.specs.Only.{only-distinct, only-few, only-tally}
 use Rattle.lists.specs.Tables.{bit-low, tally-ext}
-use Rattle.rules.specs.Model.{Place, places, Model, ready, clock, inbox, thread, line, allPlaces, livesAt, live}
+use Rattle.lists.specs.Bytes.{twoBytes}
+use Rattle.rules.specs.Model.{Place, places, Model, inbox, thread, line, allPlaces, livesAt, live}
 use Rattle.rules.specs.Consistent.{belongs, Consistent}
 use Rattle.order.specs.Sound.{Sound, sound}
 use Rattle.order.specs.Stood.{stands-once, no-place}
-use Rattle.saving.specs.Format.{headLength, entryLength, livePlaces, bodyOf, bodies, contents, queues, firstBody, tail, head, encode}
+use Rattle.saving.specs.Format.{newest, headLength, entryLength, bodyLength, livePlaces, bodyOf, bodies, contents, queuesIn, joined, lengths, queues, firstBody, tail, head, encodeAs, encode}
+use Rattle.saving.specs.Queues.{inbox-at, lengths-length, joined-append}
+use Rattle.saving.specs.declared.format.Row.{Row}
 
--- The longest is 584 bytes.
+-- The longest is 584 bytes: every place lives and waits somewhere.
 abbrev pub longestImage : ℕ
-longestImage = 584
-
--- a body without its inbox: 13 bytes
-abbrev pub bodyLength : ℕ
-bodyLength = 13
+longestImage = headLength newest + (entryLength + bodyLength + 1) * places
 
 -- ---- the live places
 -- the live count is how many there are
 pub live-length : (m : Model) → live m ≡ length (livePlaces m)
 unfolding allPlaces
 live-length m = sym (only-tally (livesAt m) 0 places ∙ tally-ext places (λ i. livesAt m (0 + i)) (livesAt m) (λ i h. ap (livesAt m) (omega arith)))
+
+pub live-distinct : (m : Model) → Distinct (livePlaces m)
+unfolding allPlaces
+live-distinct m = only-distinct (livesAt m) (upFrom 0 places) (upFrom-distinct places 0)
 
 pub live-few : (m : Model) → length (livePlaces m) ≤ places
 unfolding allPlaces
@@ -38,8 +44,7 @@ live-few m = only-few (livesAt m) 0 places
 -- ---- the parts
 -- all in the inboxes of these places
 abbrev pub inboxes : Model → List Place → List Place
-inboxes m [] = []
-inboxes m (p ∷ ps) = line m (inbox p) ++ inboxes m ps
+inboxes m ps = joined (line m) (map inbox ps)
 
 pub body-length : (m : Model) (p : Place) → length (bodyOf m p) ≡ bodyLength + length (line m (inbox p))
 body-length m p = simp length-append (omega arith)
@@ -58,80 +63,102 @@ contents-length m o [] = refl
 contents-length m o (p ∷ ps) = let i = contents-length m (o + length (bodyOf m p)) ps in omega arith
 
 -- the total: what the offset has come to behind the last body
-pub tail-length : (m : Model) → headLength + length (tail m) ≡ firstBody m + length (bodies m (livePlaces m))
-tail-length m =
-    let a = length-append (contents m (firstBody m) (livePlaces m)) (queues m ++ bodies m (livePlaces m)) in
-    let b = length-append (queues m) (bodies m (livePlaces m)) in
-    let c = contents-length m (firstBody m) (livePlaces m) in
+pub tail-length : (row : Row) (m : Model) → headLength row + length (tail row m) ≡ firstBody row m + length (bodies m (livePlaces m))
+tail-length row m =
+    let a = length-append (contents m (firstBody row m) (livePlaces m)) (queues row m ++ bodies m (livePlaces m)) in
+    let b = length-append (queues row m) (bodies m (livePlaces m)) in
+    let c = contents-length m (firstBody row m) (livePlaces m) in
     omega arith
 
-pub encode-length : (m : Model) → length (encode m) ≡ headLength + length (tail m)
-unfolding encode
-encode-length m = length-append (head m) (tail m)
+pub head-length : (row : Row) (m : Model) → length (head row m) ≡ headLength row
+head-length row m =
+    let a = length-append (lengths row m) (twoBytes (headLength row + length (tail row m))) in
+    let b = lengths-length (line m) row in
+    omega arith
+
+pub encode-length : (row : Row) (m : Model) → length (encodeAs row m) ≡ headLength row + length (tail row m)
+unfolding encodeAs
+encode-length row m = let a = length-append (head row m) (tail row m) in let b = head-length row m in omega arith
 
 -- ---- all lines together
-module _ (m : Model) (S : Sound m) where
-  -- who stands in a line before the inbox of k stands in none from there on
-  absent : (f : ℕ → Bool) (p q : ℕ) → among p (line m q) ≡ true → (k n : ℕ) → q < inbox k → count p (inboxes m (only f (upFrom k n))) ≡ 0
-  absent f p q h k zero b = refl
-  absent f p q h k (suc n) b =
-      let i = absent f p q h (suc k) n (omega arith) in
-      let z = among-none p (line m (inbox k)) (stands-once m S p q (inbox k) h (omega arith)) in
-      let c = count-append p (line m (inbox k)) (inboxes m (only f (upFrom (suc k) n))) in
-      by-test (f k) (λ t. rw t (omega arith)) (λ t. rw t i)
+distinct-append : (xs ys : List ℕ) → Distinct xs → Distinct ys → ((x : ℕ) → among x xs ≡ true → among x ys ≡ false) → Distinct (xs ++ ys)
+distinct-append [] ys d e f = e
+distinct-append (x ∷ xs) ys d e f = (not-append x xs ys (d .0) (f x (is-head x x xs refl)), distinct-append xs ys (d .1) e (λ y h. f y (is-tail y x xs h)))
 
-  -- a place stands once in its line
+-- an inbox stands among the inboxes of the places among which its place stands, and no queue does
+inbox-not : (p : Place) (ps : List Place) → among p ps ≡ false → among (inbox p) (map inbox ps) ≡ false
+inbox-not p [] h = refl
+inbox-not p (x ∷ ps) h =
+    let n = not-head p x ps h in
+    let a = inbox-at p in
+    let b = inbox-at x in
+    not-cons (inbox p) (inbox x) (map inbox ps) (λ e. n (omega arith)) (inbox-not p ps (not-tail p x ps h))
+
+queue-not : (q : ℕ) → q < queueCount → (ps : List Place) → among q (map inbox ps) ≡ false
+queue-not q h [] = refl
+queue-not q h (p ∷ ps) = let a = inbox-at p in not-cons q (inbox p) (map inbox ps) (λ e. omega arith) (queue-not q h ps)
+
+inboxes-distinct : (ps : List Place) → Distinct ps → Distinct (map inbox ps)
+inboxes-distinct [] d = tt
+inboxes-distinct (p ∷ ps) d = (inbox-not p ps (d .0), inboxes-distinct ps (d .1))
+
+-- the queues of a row, and the inboxes of the live places: no line twice
+abbrev allLines : Row → Model → List ℕ
+allLines row m = queuesIn row ++ map inbox (livePlaces m)
+
+all-distinct : (row : Row) (m : Model) → row .queues ≤ queueCount → Distinct (allLines row m)
+unfolding queuesIn
+all-distinct row m h =
+    distinct-append (upFrom 0 (row .queues)) (map inbox (livePlaces m)) (upFrom-distinct (row .queues) 0) (inboxes-distinct (livePlaces m) (live-distinct m))
+    (λ q k. let w = upFrom-within (row .queues) 0 q (among-some q (upFrom 0 (row .queues)) k) in queue-not q (omega arith) (livePlaces m))
+
+module _ (m : Model) (S : Sound m) where
+  -- who stands in a line stands in none of any others
+  absent : (p q : ℕ) → among p (line m q) ≡ true → (qs : List ℕ) → among q qs ≡ false → count p (joined (line m) qs) ≡ 0
+  absent p q h [] n = refl
+  absent p q h (r ∷ qs) n =
+      let i = absent p q h qs (not-tail q r qs n) in
+      let z = among-none p (line m r) (stands-once m S p q r h (not-head q r qs n)) in
+      let c = count-append p (line m r) (joined (line m) qs) in
+      omega arith
+
+  -- a place stands once in its line, ..
   once-in : (p q : ℕ) → count p (line m q) ≤ 1
   once-in p q = let e = S .stood p q in let b = bit-low (belongs m (thread m p) q) in omega arith
 
-  -- and so once in a line and all lines behind it, of which ys are made
-  once-more : (p q : ℕ) (ys : List ℕ) → (among p (line m q) ≡ true → count p ys ≡ 0) → count p ys ≤ 1 → count p (line m q ++ ys) ≤ 1
-  once-more p q ys f h =
-      let c = count-append p (line m q) ys in
+  -- .. and so once in different lines together
+  once : (p : ℕ) (qs : List ℕ) → Distinct qs → count p (joined (line m) qs) ≤ 1
+  once p [] d = omega arith
+  once p (q ∷ qs) d =
+      let c = count-append p (line m q) (joined (line m) qs) in
+      let i = once p qs (d .1) in
       by-test (among p (line m q))
-      (λ t. let a = once-in p q in let b = f t in omega arith)
+      (λ t. let a = once-in p q in let b = absent p q t qs (d .0) in omega arith)
       (λ t. let a = among-none p (line m q) t in omega arith)
 
-  once-inboxes : (f : ℕ → Bool) (p k n : ℕ) → count p (inboxes m (only f (upFrom k n))) ≤ 1
-  once-inboxes f p k zero = omega arith
-  once-inboxes f p k (suc n) =
-      let i = once-inboxes f p (suc k) n in
-      let j = once-more p (inbox k) (inboxes m (only f (upFrom (suc k) n))) (λ t. absent f p (inbox k) t (suc k) n (omega arith)) i in
-      by-test (f k) (λ t. rw t j) (λ t. rw t i)
-
-  no-place-in : (ps : List Place) (i : ℕ) → places ≤ i → among i (inboxes m ps) ≡ false
+  no-place-in : (qs : List ℕ) (i : ℕ) → places ≤ i → among i (joined (line m) qs) ≡ false
   no-place-in [] i h = refl
-  no-place-in (p ∷ ps) i h = not-append i (line m (inbox p)) (inboxes m ps) (no-place m S (inbox p) i h) (no-place-in ps i h)
+  no-place-in (q ∷ qs) i h = not-append i (line m q) (joined (line m) qs) (no-place m S q i h) (no-place-in qs i h)
 
-  lines-upto : (f : ℕ → Bool) (n : ℕ) → length (line m ready) + length (line m clock) + length (inboxes m (only f (upFrom 0 n))) ≤ places
-  lines-upto f n =
-      let ins = inboxes m (only f (upFrom 0 n)) in
-      let behind : (p : ℕ) → count p (line m clock ++ ins) ≤ 1 = λ p. once-more p clock ins (λ t. absent f p clock t 0 n (omega arith)) (once-inboxes f p 0 n) in
-      let clear : (p : ℕ) → among p (line m ready) ≡ true → count p (line m clock ++ ins) ≡ 0 =
-      λ p t.
-      let a = count-append p (line m clock) ins in
-      let b = among-none p (line m clock) (stands-once m S p ready clock t (omega arith)) in
-      let c = absent f p ready t 0 n (omega arith) in
-      omega arith in
-      let a = length-append (line m ready) (line m clock ++ ins) in
-      let b = length-append (line m clock) ins in
-      let k =
-      pigeon places (line m ready ++ (line m clock ++ ins))
-      (λ i h. not-append i (line m ready) (line m clock ++ ins) (no-place m S ready i h) (not-append i (line m clock) ins (no-place m S clock i h) (no-place-in (only f (upFrom 0 n)) i h)))
-      (count-distinct (line m ready ++ (line m clock ++ ins)) (λ p. once-more p ready (line m clock ++ ins) (clear p) (behind p))) in
+  lines-few : (qs : List ℕ) → Distinct qs → length (joined (line m) qs) ≤ places
+  lines-few qs d = pigeon places (joined (line m) qs) (no-place-in qs) (count-distinct (joined (line m) qs) (λ p. once p qs d))
+
+  pub queues-few : (row : Row) → row .queues ≤ queueCount → length (queues row m) + length (inboxes m (livePlaces m)) ≤ places
+  queues-few row h =
+      let a = lines-few (allLines row m) (all-distinct row m h) in
+      let b = ap length (joined-append (line m) (queuesIn row) (map inbox (livePlaces m))) in
+      let c = length-append (queues row m) (inboxes m (livePlaces m)) in
       omega arith
 
-  pub lines-few : length (line m ready) + length (line m clock) + length (inboxes m (livePlaces m)) ≤ places
-  unfolding allPlaces
-  lines-few = lines-upto (livesAt m) places
-
 -- ---- the longest
-pub longest : (m : Model) → Consistent m → length (encode m) ≤ longestImage
-longest m C =
-    let a = encode-length m in
-    let b = tail-length m in
+pub longest-as : (row : Row) (m : Model) → row .queues ≤ queueCount → Consistent m → length (encodeAs row m) ≤ longestImage
+longest-as row m h C =
+    let a = encode-length row m in
+    let b = tail-length row m in
     let c = bodies-length m (livePlaces m) in
-    let d = length-append (line m ready) (line m clock) in
     let e = live-few m in
-    let f = lines-few m (sound m C) in
+    let f = queues-few m (sound m C) row h in
     omega arith
+
+pub longest : (m : Model) → Consistent m → length (encode m) ≤ longestImage
+longest m C = longest-as newest m (omega arith) C

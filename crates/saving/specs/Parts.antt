@@ -10,6 +10,7 @@ use Rattle.lists.specs.Only.{only-append}
 use Rattle.rules.specs.Model.{Place, places, Model, allPlaces, livesAt}
 use Rattle.table.specs.Cells.{modelOf}
 use Rattle.saving.specs.Format.{livePlaces, bodyOf, bodies, contents, firstBody, tail}
+use Rattle.saving.specs.declared.format.Row.{Row}
 
 -- The model of the arrays. Nothing behind the head asks for the last number given or who runs, and so here it is none.
 abbrev pub held : List ℕ → List ℕ → List ℕ → Model
@@ -34,8 +35,8 @@ bodiesIn b w l = bodies (held b w l) (livePlaces (held b w l))
 abbrev pub contentsIn : List ℕ → List ℕ → List ℕ → ℕ → List ℕ
 contentsIn b w l o = contents (held b w l) o (livePlaces (held b w l))
 
-abbrev pub tailIn : List ℕ → List ℕ → List ℕ → List ℕ
-tailIn b w l = tail (held b w l)
+abbrev pub tailIn : Row → List ℕ → List ℕ → List ℕ → List ℕ
+tailIn row b w l = tail row (held b w l)
 
 -- ---- laws on the live places
 pub lives-start : (m : Model) → livesFrom m 0 ≡ livePlaces m
@@ -72,5 +73,5 @@ module _ (y x : ℕ) (b w l : List ℕ) where
   contents-same o [] = refl
   contents-same o (p ∷ ps) = rw (contents-same (o + length (bodyOf (held b w l) p)) ps)
 
-  pub tail-same : tail (modelOf y x b w l) ≡ tail (held b w l)
-  tail-same = rw (contents-same (firstBody (held b w l)) (livePlaces (held b w l)), bodies-same (livePlaces (held b w l)))
+  pub tail-same : (row : Row) → tail row (modelOf y x b w l) ≡ tail row (held b w l)
+  tail-same row = rw (contents-same (firstBody row (held b w l)) (livePlaces (held b w l)), bodies-same (livePlaces (held b w l)))

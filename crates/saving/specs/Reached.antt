@@ -11,7 +11,7 @@ use Rattle.rules.specs.Consistent.{Fits, Consistent}
 use Rattle.rules.specs.declared.Event.{Event}
 use Rattle.rules.specs.declared.Event.the-variants.{Create, WaitClock}
 use Rattle.order.specs.Keeps.{AllFit, always, fresh-consistent}
-use Rattle.saving.specs.Format.{encode}
+use Rattle.saving.specs.Format.{queuesIn, encodeAs, encode}
 use Rattle.saving.specs.Longest.{longestImage}
 
 -- all create, and all wait
@@ -30,7 +30,7 @@ fits = many-fit Create places (replicate places WaitClock) (omega arith) (wait-f
     wait-fit (suc n) = (omega arith, wait-fit n)
 
 reached-length : length (encode (after allWait fresh)) ≡ longestImage
-unfolding encode allPlaces tally firstFree
+unfolding encodeAs queuesIn allPlaces tally firstFree
 reached-length = refl
 
 pub reached : (m : Model) × Consistent m × (length (encode m) ≡ longestImage)

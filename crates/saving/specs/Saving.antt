@@ -5,14 +5,16 @@ use mathlib.Core.List.{List}
 use native.Mathlib.Omega.{arith}
 use lib.ListN.{length, take, drop, length-append}
 use lib.Seq.{length-take-le, take-at}
+use Rattle.lists.specs.Sizes.{queueCount}
 use Rattle.lists.specs.Laid.{laid, Wrote, laid-front}
 use Rattle.table.specs.Cells.{shown, Stands}
 use Rattle.table.specs.declared.Desk.{Desk}
 use Rattle.nucleus.specs.View.{deskOf, view, Consists}
 use Rattle.nucleus.specs.declared.State.{State}
-use Rattle.saving.specs.Format.{encode}
+use Rattle.saving.specs.Format.{newest, encode}
 use Rattle.saving.specs.Written.{Written}
 use Rattle.saving.specs.Save.{Saves, inconsistent, short, saved}
+use Rattle.saving.specs.declared.format.Row.{Row}
 
 pub save-14 : {s : State} (before : List ℕ) → (Consists s → ⊥) → Saves s before 14 0 before
 save-14 before n = inconsistent n (record { code-is = refl; length-is = refl; bytes-are = refl })
@@ -20,10 +22,13 @@ save-14 before n = inconsistent n (record { code-is = refl; length-is = refl; by
 pub save-stands : {s : State} {d : Desk} → Consists s → d ≡ deskOf s → Stands d (s .blocks) (s .words) (s .lines)
 save-stands k e = rw e k
 
+pub save-few : {row : Row} → row ≡ newest → row .queues ≤ queueCount
+save-few e = rw e (omega arith)
+
 -- the array is t, and the image its first r bytes
-module _ {s : State} (k : Consists s) {d : Desk} (e : d ≡ deskOf s) {i t : List ℕ} {r : ℕ} (p : Written (shown d (s .blocks) (s .words) (s .lines)) i t r) where
-  image : Written (view s) i t r
-  image = rw e at p
+module _ {s : State} (k : Consists s) {d : Desk} (e : d ≡ deskOf s) {row : Row} (f : row ≡ newest) {i t : List ℕ} {r : ℕ} (p : Written row (shown d (s .blocks) (s .words) (s .lines)) i t r) where
+  image : Written newest (view s) i t r
+  image = rw (e, f) at p
 
   pub image-fits : r ≤ length t
   image-fits = let a = image .size in let b = ap length (image .bytes) ∙ length-append (encode (view s)) (drop r i) in omega arith

@@ -1,11 +1,21 @@
-// The numbers of the image's format, for those who write it and those who read it: its edition, how long its parts are, and where what stands in them.
+// The numbers of the image's format, for those who write it and those who read it: the table of its editions, how long its parts are, and where what stands
+// in them.
+ghost use mathlib.Core.Path.{_≡_};
+ghost use Rattle.saving.specs.Format.{rowOf, newest as newestRow, totalAt, headLength};
 
-// The one edition that is known.
-pub const EDITION: u8 = 1;
+// A row of the table of editions: what an edition has of the format. Its queues are the lines 0, 1, ..
+pub struct Row {
+    pub edition: u8,
+    pub queues: u8,
+}
 
-// Head, 8 bytes: edition, last number, running place or 255, live count, ready length, clock length, total length (2 bytes).
-pub const HEAD: usize = 8;
+// The newest edition, which is the last that the table has.
+pub const NEWEST: u8 = 1;
 
+// How many queues each edition has, by its number. An edition that has none is not known.
+const QUEUES_BY: [u8; NEWEST as usize + 1] = [0, 2];
+
+// Head: edition, last number, running place or 255, live count, a length for each queue, total length (2 bytes).
 pub const EDITION_AT: usize = 0;
 
 pub const LAST_AT: usize = 1;
@@ -14,11 +24,12 @@ pub const RUNNING_AT: usize = 2;
 
 pub const LIVE_AT: usize = 3;
 
-pub const READY_AT: usize = 4;
+pub const LENGTHS_AT: usize = 4;
 
-pub const CLOCK_AT: usize = 5;
+pub const TOTAL: usize = 2;
 
-pub const TOTAL_AT: usize = 6;
+// No edition's head is shorter than that of edition 1.
+pub const SHORTEST_HEAD: usize = 8;
 
 // Contents, 4 bytes an entry: place, number, offset of its body (2).
 pub const ENTRY: usize = 4;
@@ -41,3 +52,43 @@ pub const WHO_AT: usize = 7;
 pub const ANSWER_AT: usize = 8;
 
 pub const INBOX_LENGTH_AT: usize = 12;
+
+// The row of an edition, with no queues where it is not known.
+pub fn row_of(edition: u8) -> Row
+    ensures { λ r. ⌜ r ≡ rowOf edition ⌝ }
+{
+    if NEWEST < edition {
+        return Row {
+            edition: edition,
+            queues: 0,
+        };
+    }
+    Row {
+        edition: edition,
+        queues: QUEUES_BY[edition as usize],
+    }
+}
+
+// The newest edition has every queue.
+pub fn newest() -> Row
+    ensures { λ r. ⌜ r ≡ newestRow ⌝ }
+{
+    Row {
+        edition: NEWEST,
+        queues: lines::QUEUES as u8,
+    }
+}
+
+// Where the total length stands.
+pub fn total_at(row: Row) -> usize
+    ensures { λ r. ⌜ r ≡ totalAt row ⌝ }
+{
+    LENGTHS_AT + row.queues as usize
+}
+
+// How long the head is.
+pub fn head_length(row: Row) -> usize
+    ensures { λ r. ⌜ r ≡ headLength row ⌝ }
+{
+    total_at(row) + TOTAL
+}

@@ -1,10 +1,10 @@
 // Saving: the image of a consistent state is written from front to back, as specs/Format.antt has it; the head comes last, since it tells the total.
 // Each function that writes gives the position behind what it wrote, and leaves every other byte as it was (`Wrote`).
 ghost use mathlib.Core.Path.{_≡_};
-ghost use mathlib.Core.List.{_∷_};
+ghost use mathlib.Core.List.{[], _∷_};
 ghost use Prim.Native.Nat.{_+_, _*_, _%_, _≤_, _<_};
 ghost use lib.ListN.{length};
-ghost use Rattle.lists.specs.Sizes.{places, lineCount};
+ghost use Rattle.lists.specs.Sizes.{places, queueCount, lineCount};
 ghost use Rattle.lists.specs.Bytes.{twoBytes, wordBytes};
 ghost use Rattle.lists.specs.Laid.{Wrote};
 ghost use Rattle.lines.specs.Lines.{lineOf, Tidy};
@@ -14,12 +14,13 @@ ghost use Rattle.saving.specs.Format.{headLength, entryLength, threadByt
 ghost use Rattle.saving.specs.Longest.{longestImage};
 ghost use Rattle.saving.specs.Parts.{held, bodyIn, bodiesIn, contentsIn, tailIn};
 ghost use Rattle.saving.specs.Entries.{EntryPut, PutsEntry};
-ghost use Rattle.saving.specs.Written.{PutsContents, PutsTail, headOf, Written};
+ghost use Rattle.saving.specs.Written.{PutsContents, PutsTail, lengthsIn, waitingIn, headOf, Written};
 ghost use Rattle.saving.specs.Save.{Saves};
 use format::BODY;
-use format::EDITION;
 use format::ENTRY;
-use format::HEAD;
+use format::LENGTHS_AT;
+use format::Row;
+use format::TOTAL;
 use lines::Links;
 use nucleus::State;
 use rules::Number;
@@ -32,8 +33,8 @@ use table::Words;
 
 pub mod format;
 
-// The longest image.
-pub const LONGEST: usize = 584;
+// The longest image: that of the newest edition, where every place lives and waits somewhere.
+pub const LONGEST: usize = LENGTHS_AT + lines::QUEUES + TOTAL + (ENTRY + BODY + 1) * lines::PLACES;
 
 // The low byte of a number.
 fn low(x: u32) -> u8
@@ -171,13 +172,13 @@ fn put_entry(out: &mut [u8], c: Cursor, b: &Blocks, w: &Words, l: &Links, p: Pla
     }
 }
 
-// Writes the contents, for a first body at `first`.
-fn put_contents(out: &mut [u8], b: &Blocks, w: &Words, l: &Links, first: u32) -> usize
-    requires { ⌜ PutsContents (now b) (now w) (now l) (now out) first ⌝ }
-    ensures { λ r. ⌜ Wrote (now (out .entry)) headLength (contentsIn (now (b .entry)) (now (w .entry)) (now (l .entry)) first) (now (out .exit)) r ⌝ }
+// Writes the contents at a position, for a first body at `first`.
+fn put_contents(out: &mut [u8], at: usize, b: &Blocks, w: &Words, l: &Links, first: u32) -> usize
+    requires { ⌜ PutsContents (now b) (now w) (now l) (now out) at first ⌝ }
+    ensures { λ r. ⌜ Wrote (now (out .entry)) at (contentsIn (now (b .entry)) (now (w .entry)) (now (l .entry)) first) (now (out .exit)) r ⌝ }
 {
     let mut c = Cursor {
-        at: HEAD,
+        at: at,
         body: first,
     };
     let mut p: u8 = 0;
@@ -202,45 +203,96 @@ fn put_bodies(out: &mut [u8], at: usize, b: &Blocks, w: &Words, l: &Links) -> us
     next
 }
 
-// Writes all behind the head: contents, ready, clock, bodies.
-fn put_tail(out: &mut [u8], b: &Blocks, w: &Words, l: &Links, first: u32) -> usize
-    requires { ⌜ PutsTail (now b) (now w) (now l) (now out) first ⌝ }
-    ensures { λ r. ⌜ Wrote (now (out .entry)) headLength (tailIn (now (b .entry)) (now (w .entry)) (now (l .entry))) (now (out .exit)) r ⌝ }
+// Writes the places of a row's queues.
+fn put_queues(out: &mut [u8], at: usize, row: Row, l: &Links) -> usize
+    requires { ⌜ Tidy places lineCount (now l) × (row .queues ≤ queueCount) × (at + length (waitingIn row (now l)) ≤ length (now out)) ⌝ }
+    ensures { λ r. ⌜ Wrote (now (out .entry)) at (waitingIn row (now (l .entry))) (now (out .exit)) r ⌝ }
 {
-    let ready = put_contents(out, b, w, l, first);
-    let clock = put_line(out, ready, l, table::READY_LINE);
-    let next = put_line(out, clock, l, table::CLOCK_LINE);
+    let mut next = at;
+    let mut q: u8 = 0;
+    while q < row.queues {
+        next = put_line(out, next, l, q);
+        q += 1;
+    }
+    next
+}
+
+// Writes all behind the head: contents, queues, bodies.
+fn put_tail(out: &mut [u8], row: Row, b: &Blocks, w: &Words, l: &Links, first: u32) -> usize
+    requires { ⌜ PutsTail row (now b) (now w) (now l) (now out) first ⌝ }
+    ensures { λ r. ⌜ Wrote (now (out .entry)) (headLength row) (tailIn row (now (b .entry)) (now (w .entry)) (now (l .entry))) (now (out .exit)) r ⌝ }
+{
+    let at = format::head_length(row);
+    let queues = put_contents(out, at, b, w, l, first);
+    let next = put_queues(out, queues, row, l);
     put_bodies(out, next, b, w, l)
 }
 
-// Where the first body starts.
-fn first_body(live: u8, ready: u8, clock: u8) -> u32
-    ensures { λ r. ⌜ r ≡ headLength + entryLength * live + (ready + clock) ⌝ }
+// Where the first body starts: behind the head, an entry for each that lives, and all that wait in a row's queues.
+fn first_body(row: Row, l: &Links, live: u8) -> u32
+    requires { ⌜ Tidy places lineCount (now l) × (row .queues ≤ queueCount) ⌝ }
+    ensures { λ r. ⌜ r ≡ headLength row + entryLength * live + length (waitingIn row (now (l .entry))) ⌝ }
 {
-    HEAD as u32 + ENTRY as u32 * wide(live) + (wide(ready) + wide(clock))
+    let mut n = format::head_length(row) as u32 + ENTRY as u32 * wide(live);
+    let mut q: u8 = 0;
+    while q < row.queues {
+        n += wide(measure(l, q));
+        q += 1;
+    }
+    n
 }
 
-// The head: edition, last number, running place, live count, ready length, clock length, total length.
-fn head(d: Desk, live: u8, ready: u8, clock: u8, total: u32) -> [u8; HEAD]
-    ensures { λ r. ⌜ r ≡ headOf (d .last .0) (d .running .0) live ready clock total ⌝ }
+// Writes the lengths of a row's queues.
+fn put_lengths(out: &mut [u8], at: usize, row: Row, l: &Links) -> usize
+    requires { ⌜ Tidy places lineCount (now l) × (row .queues ≤ queueCount) × (at + length (lengthsIn row (now l)) ≤ length (now out)) ⌝ }
+    ensures { λ r. ⌜ Wrote (now (out .entry)) at (lengthsIn row (now (l .entry))) (now (out .exit)) r ⌝ }
 {
-    let a = low(total);
-    let b = low(total / 256);
-    [EDITION, d.last.0, d.running.0, live, ready, clock, a, b]
+    let mut next = at;
+    let mut q: u8 = 0;
+    while q < row.queues {
+        out[next] = measure(l, q);
+        next += 1;
+        q += 1;
+    }
+    next
 }
 
-// Writes the image of a consistent state, and gives its length. The head comes last: it tells the total.
-pub fn write(b: &Blocks, w: &Words, l: &Links, d: Desk, out: &mut [u8]) -> usize
-    requires { ⌜ Stands d (now b) (now w) (now l) × (longestImage ≤ length (now out)) ⌝ }
-    ensures { λ r. ⌜ Written (shown d (now (b .entry)) (now (w .entry)) (now (l .entry))) (now (out .entry)) (now (out .exit)) r ⌝ }
+// The head begins with four bytes, and ends with the total.
+fn start(row: Row, d: Desk, live: u8) -> [u8; LENGTHS_AT]
+    ensures { λ r. ⌜ r ≡ row .edition ∷ d .last .0 ∷ d .running .0 ∷ live ∷ [] ⌝ }
+{
+    [row.edition, d.last.0, d.running.0, live]
+}
+
+fn two(x: u32) -> [u8; TOTAL]
+    ensures { λ r. ⌜ r ≡ twoBytes x ⌝ }
+{
+    let a = low(x);
+    let b = low(x / 256);
+    [a, b]
+}
+
+// Writes the head: edition, last number, running place, live count, the lengths of the queues, total length.
+fn put_head(out: &mut [u8], row: Row, l: &Links, d: Desk, live: u8, total: u32) -> usize
+    requires { ⌜ Tidy places lineCount (now l) × (row .queues ≤ queueCount) × (headLength row ≤ length (now out)) ⌝ }
+    ensures { λ r. ⌜ Wrote (now (out .entry)) 0 (headOf row (d .last .0) (d .running .0) live (lengthsIn row (now (l .entry))) total) (now (out .exit)) r ⌝ }
+{
+    let first = start(row, d, live);
+    let last = two(total);
+    let at = put(out, 0, &first);
+    let next = put_lengths(out, at, row, l);
+    put(out, next, &last)
+}
+
+// Writes the image of a consistent state, in the edition of the row, and gives its length. The head comes last: it tells the total.
+pub fn write(row: Row, b: &Blocks, w: &Words, l: &Links, d: Desk, out: &mut [u8]) -> usize
+    requires { ⌜ (row .queues ≤ queueCount) × Stands d (now b) (now w) (now l) × (longestImage ≤ length (now out)) ⌝ }
+    ensures { λ r. ⌜ Written row (shown d (now (b .entry)) (now (w .entry)) (now (l .entry))) (now (out .entry)) (now (out .exit)) r ⌝ }
 {
     let live = filled::count(d.filled);
-    let ready = measure(l, table::READY_LINE);
-    let clock = measure(l, table::CLOCK_LINE);
-    let first = first_body(live, ready, clock);
-    let end = put_tail(out, b, w, l, first);
-    let h = head(d, live, ready, clock, end as u32);
-    put(out, 0, &h);
+    let first = first_body(row, l, live);
+    let end = put_tail(out, row, b, w, l, first);
+    put_head(out, row, l, d, live, end as u32);
     end
 }
 
@@ -260,7 +312,7 @@ pub fn keep(s: State, buffer: &mut [u8]) -> Saved
     let w = s.words;
     let l = s.lines;
     let mut image = [0u8; LONGEST];
-    let n = write(&b, &w, &l, d, &mut image);
+    let n = write(format::newest(), &b, &w, &l, d, &mut image);
     if buffer.len() < n {
         return Saved {
             code: codes::SHORT,

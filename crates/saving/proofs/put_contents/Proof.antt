@@ -2,22 +2,21 @@
 use borrow.Author.Needs.{needs}
 use Prim.Native.Nat.{_≤_, _-_}
 use Rattle.rules.specs.Model.{places}
-use Rattle.saving.specs.Format.{headLength}
 use Rattle.saving.specs.Parts.{held}
 use Rattle.saving.specs.Places.{Lists, contents-start, contents-more, contents-length-is, contents-end, enters}
 use Rattle.saving.proofs.put_contents.Statement.{statement}
 use Rattle.saving.proofs.put_contents.Tie as tie
 
 abbrev Inv-loop : tie.InvT-loop
-Inv-loop out₀ b w l first c₀ p₀ out c p = Lists (held b w l) out₀ headLength first out (c .at) (c .body) p × (p ≤ places)
+Inv-loop out₀ at b w l first c₀ p₀ out c p = Lists (held b w l) out₀ at first out (c .at) (c .body) p × (p ≤ places)
 
 abbrev μ-loop : tie.MeasureT-loop
-μ-loop out₀ b w l first c₀ p₀ out c p = places - p
+μ-loop out₀ at b w l first c₀ p₀ out c p = places - p
 
 loop-holds : tie.Need-loop-holds Inv-loop μ-loop
 loop-holds c =
     let a = c .before .args in
-    (contents-start (held (a .b .now) (a .w .now) (a .l .now)) (a .out .now) headLength (a .first) (c .before .pre .room), search needs)
+    (contents-start (held (a .b .now) (a .w .now) (a .l .now)) (a .out .now) (a .at) (a .first) (c .before .pre .room), search needs)
 
 cast-loop : tie.Need-cast-loop Inv-loop μ-loop
 cast-loop c = search needs

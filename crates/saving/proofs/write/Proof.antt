@@ -1,77 +1,56 @@
 -- `write` meets its contract: the parts behind the head, and the head.
-use borrow.Author.Needs.{needs}
 use native.Mathlib.Omega.{arith}
-use Rattle.saving.specs.Written.{write-tail, write-low, write-whole}
+use Rattle.saving.specs.Written.{write-tail, write-low, write-head, write-whole}
+use borrow.Author.Needs.{needs}
 use Rattle.saving.proofs.write.Statement.{statement}
 use Rattle.saving.proofs.write.Tie as tie
 
 count-requires : tie.Need-count-requires
 count-requires c κs = search needs
 
-measure-requires : tie.Need-measure-requires
-measure-requires c κs = search needs
-
-measure-requires-2 : tie.Need-measure-requires-2
-measure-requires-2 c κs = search needs
-
 first-body-requires : tie.Need-first-body-requires
 first-body-requires c κs = search needs
 
 put-tail-requires : tie.Need-put-tail-requires
 put-tail-requires c κs =
-    let at-measure2 = c .before .before in
-    let at-measure = at-measure2 .before in
-    let at-count = at-measure .before in
+    let at-count = c .before .before in
     let start = at-count .before .before in
-    write-tail (start .pre .0) (at-count .count .ensures) (at-measure .measure .ensures) (at-measure2 .measure2 .ensures)
-    (c .before .first-body .ensures) (start .pre .1)
+    write-tail (start .args .row) (start .pre .0) (start .pre .1) (at-count .count .ensures) (c .before .first-body .ensures) (start .pre .2)
 
-cast-head : tie.Need-cast-head
-cast-head c =
-    let at-put-tail = c .before .before in
-    let at-measure2 = at-put-tail .before .before .before in
-    let at-measure = at-measure2 .before in
-    let at-count = at-measure .before in
+cast-put-head : tie.Need-cast-put-head
+cast-put-head c =
+    let at-put-tail = c .before .before .before in
+    let at-count = at-put-tail .before .before .before in
     let start = at-count .before .before in
-    let h = write-low (start .pre .0) (at-count .count .ensures) (at-measure .measure .ensures) (at-measure2 .measure2 .ensures) (at-put-tail .put-tail .ensures) in
+    let h = write-low (start .args .row) (start .pre .0) (start .pre .1) (at-count .count .ensures) (at-put-tail .put-tail .ensures) (start .pre .2) in
     omega arith
 
-head-requires : tie.Need-head-requires
-head-requires c κs = search needs
-
-slice-aggregate-put : tie.Need-slice-aggregate-put
-slice-aggregate-put c = search needs
-
-put-requires : tie.Need-put-requires
-put-requires c κs = search needs
+put-head-requires : tie.Need-put-head-requires
+put-head-requires c κs =
+    let at-put-tail = c .before .before .before in
+    let at-count = at-put-tail .before .before .before in
+    let start = at-count .before .before in
+    (start .pre .1 .whole .lines, start .pre .0, write-head (start .args .row) (start .pre .0) (start .pre .1) (at-count .count .ensures) (at-put-tail .put-tail .ensures) (start .pre .2))
 
 same-length : tie.Need-same-length
 same-length c = search needs
 
 returns : tie.Need-returns
 returns c =
-    let at-put = c .before .before in
-    let at-head = at-put .before .before .before in
-    let at-put-tail = at-head .before .before .before in
-    let at-measure2 = at-put-tail .before .before .before in
-    let at-measure = at-measure2 .before in
-    let at-count = at-measure .before in
+    let at-put-head = c .before .before in
+    let at-put-tail = at-put-head .before .before .before .before in
+    let at-count = at-put-tail .before .before .before in
     let start = at-count .before .before in
-    write-whole (start .pre .0) (at-count .count .ensures) (at-measure .measure .ensures) (at-measure2 .measure2 .ensures)
-    (at-put-tail .put-tail .ensures) (at-head .head .ensures) (at-put .put .ensures) (start .pre .1)
+    write-whole (start .args .row) (start .pre .0) (start .pre .1) (at-count .count .ensures) (at-put-tail .put-tail .ensures) (start .pre .2) (at-put-head .put-head .ensures)
 
 pub write-spec : {M : Type 1} → statement M
 write-spec =
     tie.close
     (tie.spec
     count-requires
-    measure-requires
-    measure-requires-2
     first-body-requires
     put-tail-requires
-    cast-head
-    head-requires
-    slice-aggregate-put
-    put-requires
+    cast-put-head
+    put-head-requires
     same-length
     returns)

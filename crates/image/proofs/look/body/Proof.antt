@@ -1,9 +1,15 @@
 -- `body` meets its contract. Assumes nothing.
-use borrow.Author.Needs.{needs}
-use mathlib.Core.Path.{refl, _∙_}
+use mathlib.Core.Path.{refl, ap, _∙_}
+use Prim.Native.Nat.{ℕ, _+_, _*_}
 use native.Mathlib.Omega.{arith}
+use Rattle.lists.specs.Bytes.{twoAt}
+use Rattle.saving.specs.Format.{entryLength}
+use borrow.Author.Needs.{needs}
 use Rattle.image.proofs.look.body.Statement.{statement}
 use Rattle.image.proofs.look.body.Tie as tie
+
+head-length-requires : tie.Need-head-length-requires
+head-length-requires c κs = search needs
 
 mul-entry : tie.Need-mul-entry
 mul-entry c = search needs
@@ -26,18 +32,21 @@ at-requires c κs = search needs
 wide-requires : tie.Need-wide-requires
 wide-requires c κs = search needs
 
-add-t6 : tie.Need-add-t6
-add-t6 c = search needs
+add-t7 : tie.Need-add-t7
+add-t7 c = search needs
 
 returns : tie.Need-returns
 returns c =
+    let at-head = c .before .before .before in
+    let start = at-head .before .before in
     let e = c .wide .ensures .0 ∙ c .before .at .ensures in
-    (refl, c .before .before .two .ensures .0, omega arith)
+    (refl, c .before .before .two .ensures .0 ∙ ap (λ (x : ℕ). twoAt (start .args .image .now) (x + entryLength * start .args .i + 2)) (at-head .head-length .ensures), omega arith)
 
 pub body-spec : {M : Type 1} → statement M
 body-spec =
     tie.close
     (tie.spec
+    head-length-requires
     mul-entry
     add-entry
     add-two
@@ -45,5 +54,5 @@ body-spec =
     add-at
     at-requires
     wide-requires
-    add-t6
+    add-t7
     returns)

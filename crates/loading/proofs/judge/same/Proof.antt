@@ -1,6 +1,6 @@
--- `same` meets its contract: the candidate is saved again, and compared. Assumes nothing.
-use borrow.Author.Needs.{needs}
+-- `same` meets its contract: the candidate is written again, and compared. Assumes nothing.
 use Rattle.loading.specs.Judges.{written-room, written-tells}
+use borrow.Author.Needs.{needs}
 use Rattle.loading.proofs.judge.same.Statement.{statement}
 use Rattle.loading.proofs.judge.same.Tie as tie
 
@@ -14,7 +14,7 @@ write-requires : tie.Need-write-requires
 write-requires c κs =
     let at-desk = c .before .before .before .before .before .before .before in
     let start = at-desk .before .before in
-    (rw (at-desk .desk .ensures) (start .pre), search needs)
+    (start .pre .0, rw (at-desk .desk .ensures) (start .pre .1), search needs)
 
 slice-aggregate-equal : tie.Need-slice-aggregate-equal
 slice-aggregate-equal c = search needs

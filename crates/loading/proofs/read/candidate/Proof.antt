@@ -1,7 +1,7 @@
 -- `candidate` meets its contract: the queues and all entries have been read. Assumes nothing.
-use borrow.Author.Needs.{needs}
 use mathlib.Core.Path.{_∙_}
 use Rattle.loading.specs.Enters.{candidate-shows}
+use borrow.Author.Needs.{needs}
 use Rattle.loading.proofs.read.candidate.Statement.{statement}
 use Rattle.loading.proofs.read.candidate.Tie as tie
 

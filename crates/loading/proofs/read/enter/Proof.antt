@@ -1,10 +1,15 @@
 -- `enter` meets its contract: an entry that names no place is skipped, and of any other the body is read. Assumes nothing.
-use borrow.Author.Needs.{needs}
-use mathlib.Core.Path.{_∙_}
+use mathlib.Core.Path.{ap, _∙_}
+use Prim.Native.Nat.{ℕ, _+_, _*_}
 use native.Mathlib.Omega.{arith}
+use Rattle.saving.specs.Format.{entryLength}
 use Rattle.loading.specs.Enters.{entered-no, entered-one}
+use borrow.Author.Needs.{needs}
 use Rattle.loading.proofs.read.enter.Statement.{statement}
 use Rattle.loading.proofs.read.enter.Tie as tie
+
+head-length-requires : tie.Need-head-length-requires
+head-length-requires c κs = search needs
 
 mul-entry : tie.Need-mul-entry
 mul-entry c = search needs
@@ -19,7 +24,7 @@ wide-requires : tie.Need-wide-requires
 wide-requires c κs = search needs
 
 returns : tie.Need-returns
-returns c = entered-no (c .before .before .before .before .pre .1) (omega arith)
+returns c = entered-no (c .before .before .before .before .before .pre .1) (ap (λ (n : ℕ). n + entryLength * c .before .before .before .before .before .args .i) (c .before .before .before .head-length .ensures)) (omega arith)
 
 add-two : tie.Need-add-two
 add-two c = search needs
@@ -62,13 +67,16 @@ returns-2 c =
     let at-at2 = at-seat .before .before .before in
     let at-two = at-at2 .before in
     let at-at = at-two .before .before .before in
-    entered-one (at-seat .seat .ensures) (c .enqueue .ensures) (at-at .at .ensures) (at-at2 .at2 .ensures) (at-two .two .ensures .0)
-    (at-wide2 .wide2 .ensures .0 ∙ at-at3 .at3 .ensures)
+    let at-head = at-at .before in
+    let i = at-head .before .before .args .i in
+    entered-one (at-seat .seat .ensures) (c .enqueue .ensures) (ap (λ (n : ℕ). n + entryLength * i) (at-head .head-length .ensures)) (at-at .at .ensures)
+    (at-at2 .at2 .ensures) (at-two .two .ensures .0) (at-wide2 .wide2 .ensures .0 ∙ at-at3 .at3 .ensures)
 
 pub enter-spec : {M : Type 1} → statement M
 enter-spec =
     tie.close
     (tie.spec
+    head-length-requires
     mul-entry
     add-entry
     at-requires

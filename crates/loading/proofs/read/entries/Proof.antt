@@ -9,10 +9,10 @@ use Rattle.loading.proofs.read.entries.Statement.{statement}
 use Rattle.loading.proofs.read.entries.Tie as tie
 
 abbrev Inv-loop : tie.InvT-loop
-Inv-loop image n b₀ w₀ l₀ i₀ b w l i = (i ≤ n) × Entered image 0 i b₀ w₀ l₀ b w l
+Inv-loop row image n b₀ w₀ l₀ i₀ b w l i = (i ≤ n) × Entered row image 0 i b₀ w₀ l₀ b w l
 
 abbrev μ-loop : tie.MeasureT-loop
-μ-loop image n b₀ w₀ l₀ i₀ b w l i = n - i
+μ-loop row image n b₀ w₀ l₀ i₀ b w l i = n - i
 
 loop-holds : tie.Need-loop-holds Inv-loop μ-loop
 loop-holds c = (omega arith, entered-none (c .before .pre .1))
