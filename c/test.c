@@ -223,13 +223,25 @@ static void try_fresh(size_t room, uint8_t code, struct part after) {
     settle("rumqatiss_fresh", call.code, code);
 }
 
+/* Where the contents begin and end in an image that load takes. Before them is its edition's head. */
+static size_t contents_of(struct part im) { return im.at[0] == 1 ? 8 : 56; }
+static size_t contents_end(struct part im) { return contents_of(im) + 4 * (size_t)im.at[3]; }
+
+/* Whether somebody waits for the clock or, in edition 2, at a device: the head counts them up to the length at its end. */
+static int somebody_waits(struct part im) {
+    for (size_t i = 5; i < contents_of(im) - 2; i++) {
+        if (im.at[i] != 0) return 1;
+    }
+    return 0;
+}
+
 /* The choice of an image that load takes, as its bytes say it. */
 static struct chosen choice_of(struct part im) {
-    for (size_t i = 8; i < 8 + 4 * (size_t)im.at[3]; i += 4) {
+    for (size_t i = contents_of(im); i < contents_end(im); i += 4) {
         if (im.at[i] == im.at[2]) return (struct chosen){ RUMQATISS_RUN, im.at[i + 1] };
     }
     if (im.at[3] == 0) return halt;
-    return (struct chosen){ im.at[5] != 0 ? RUMQATISS_WAIT : RUMQATISS_STUCK, RUMQATISS_NOBODY };
+    return (struct chosen){ somebody_waits(im) ? RUMQATISS_WAIT : RUMQATISS_STUCK, RUMQATISS_NOBODY };
 }
 
 /* ---- the tables */
@@ -292,7 +304,7 @@ static void load_row(char **f) {
     if (seen == 0) broken("look-ups were expected");
     if (code != RUMQATISS_DONE) return;
     /* every thread that the image's contents name */
-    for (size_t i = 8; i < 8 + 4 * (size_t)im.at[3]; i += 4) {
+    for (size_t i = contents_of(im); i < contents_end(im); i += 4) {
         size_t body = im.at[i + 2] | (size_t)im.at[i + 3] << 8;
         try_look_up(im, im.at[i + 1], RUMQATISS_DONE, (uint16_t)body, (uint16_t)(13 + im.at[body + 12]));
     }
@@ -339,30 +351,30 @@ static void try_table(const char *name, const char *path, int columns, void row(
 
 /* ---- what no table has */
 
-static const uint8_t fresh_bytes[] = { 1, 253, 255, 0, 0, 0, 8, 0 };
-static const uint8_t first_bytes[] = { 1, 0, 0, 1, 0, 0, 25, 0, 0, 0, 12, 0, 1, 255, 0, 0, 0, 0, 0, 255, 0, 0, 0, 0, 0 };
+static const uint8_t fresh_bytes[56] = { 2, 253, 255, [54] = 56 };
+static const uint8_t first_bytes[73] = { 2, 0, 0, 1, [54] = 73, [58] = 60, [60] = 1, 255, [67] = 255 };
 static const struct part fresh = { fresh_bytes, sizeof fresh_bytes }, first = { first_bytes, sizeof first_bytes };
+static const struct chosen run_0 = { RUMQATISS_RUN, 0 }, wait = { RUMQATISS_WAIT, RUMQATISS_NOBODY };
 
 static void try_rooms(void) {
     table = "fresh";
-    for (size_t room = 0; room <= 16; room++) {
+    for (size_t room = 0; room <= RUMQATISS_FRESH_IMAGE + 8; room++) {
         line = (int)room;
         if (room < RUMQATISS_FRESH_IMAGE) try_fresh(room, RUMQATISS_SHORT_BUFFER, none);
         else try_fresh(room, RUMQATISS_DONE, fresh);
     }
-    printf("fresh: buffers of 0 to 16 bytes agree\n");
+    printf("fresh: buffers of 0 to %d bytes agree\n", RUMQATISS_FRESH_IMAGE + 8);
 }
 
 /* A record of every kind in every length: only the length of RUMQATISS_RECORD_LENGTHS is one record. */
 static void try_lengths(void) {
-    static const uint8_t lengths[8] = RUMQATISS_RECORD_LENGTHS;
-    static const uint8_t codes[8] = { 0, 1, 1, 1, 4, 1, 0, 0 };  /* what the event comes to where no thread lives */
-    static const struct chosen run_0 = { RUMQATISS_RUN, 0 };
+    static const uint8_t lengths[10] = RUMQATISS_RECORD_LENGTHS;
+    static const uint8_t codes[10] = { 0, 1, 1, 1, 4, 1, 0, 0, 1, 0 };  /* what the event comes to where no thread lives */
     for (line = 0; line <= 255; line++) {
         for (size_t n = 1; n <= RUMQATISS_LONGEST_RECORD + 1; n++) {
             uint8_t b[RUMQATISS_LONGEST_RECORD + 1] = { (uint8_t)line };
             struct part rec = { b, n };
-            if (line < 1 || line > 8) try_board(fresh, rec, ROOM, MARK, RUMQATISS_UNKNOWN_KIND, halt, RUMQATISS_NOBODY, none);
+            if (line < 1 || line > 10) try_board(fresh, rec, ROOM, MARK, RUMQATISS_UNKNOWN_KIND, halt, RUMQATISS_NOBODY, none);
             else if (n != lengths[line - 1]) try_board(fresh, rec, ROOM, MARK, RUMQATISS_CUT_SHORT, halt, RUMQATISS_NOBODY, none);
             else if (line == RUMQATISS_CREATE) try_board(fresh, rec, ROOM, MARK, RUMQATISS_DONE, run_0, 0, first);
             else try_board(fresh, rec, ROOM, MARK, codes[line - 1], halt, RUMQATISS_NOBODY, codes[line - 1] == 0 ? fresh : none);
@@ -370,8 +382,8 @@ static void try_lengths(void) {
     }
 }
 
-/* Records that the rules refuse after a log from fresh: a send, a receive or a reply that names the running thread, and a reply to
-   a thread in each of the standings in which it does not await the reply of the one that runs. */
+/* Records that the rules refuse after a log from fresh: a send, a receive or a reply that names the running thread, a reply to a
+   thread in each of the standings in which it does not await the reply of the one that runs, and a wait where there is no device. */
 static void try_refusals(void) {
     static struct { char log[40], record[16]; uint8_t runs, code; } rows[] = {
         { "01", "020007000000", 0, RUMQATISS_NAMES_CALLER },
@@ -385,7 +397,10 @@ static void try_refusals(void) {
         { "01010102010900000003ff07", "040007000000", 2, RUMQATISS_NOT_AWAITING },  /* it awaits the reply of another */
         { "010103ff", "040007000000", 1, RUMQATISS_NOT_AWAITING },                  /* it receives from anyone */
         { "01010301", "040007000000", 1, RUMQATISS_NOT_AWAITING },                  /* it receives from the one that runs */
-        { "010106", "040007000000", 1, RUMQATISS_NOT_AWAITING }                     /* it waits for the clock */
+        { "010106", "040007000000", 1, RUMQATISS_NOT_AWAITING },                    /* it waits for the clock */
+        { "01010901", "040007000000", 1, RUMQATISS_NOT_AWAITING },                  /* it waits at a device, whose index runs as a number */
+        { "01", "0930", 0, RUMQATISS_BAD_NUMBER },                                  /* the first index of no device */
+        { "01", "09ff", 0, RUMQATISS_BAD_NUMBER }
     };
     for (size_t i = 0; i < sizeof rows / sizeof rows[0]; i++) {
         uint8_t b[RUMQATISS_LONGEST_IMAGE], kind, runs;
@@ -401,33 +416,124 @@ static void try_refusals(void) {
     }
 }
 
-/* The longest image: 32 threads, all of them waiting for the clock. */
-static void try_longest(void) {
-    static const uint8_t create = RUMQATISS_CREATE;
-    static const struct chosen wait = { RUMQATISS_WAIT, RUMQATISS_NOBODY };
-    uint8_t log[64], full[RUMQATISS_LONGEST_IMAGE] = { 1, 31, 255, 32, 0, 32, 584 & 255, 584 >> 8 };
-    for (uint8_t i = 0; i < 32; i++) {
-        uint16_t body = (uint16_t)(8 + 32 * 4 + 32 + 13 * i);
-        log[i] = RUMQATISS_CREATE;
-        log[32 + i] = RUMQATISS_WAIT_CLOCK;
-        full[8 + 4 * i] = full[9 + 4 * i] = full[8 + 32 * 4 + i] = i;
-        full[10 + 4 * i] = (uint8_t)body;
-        full[11 + 4 * i] = (uint8_t)(body >> 8);
-        full[body] = 6;
-        full[body + 1] = full[body + 7] = 255;
-    }
-    struct part all = { log, sizeof log }, after = { full, sizeof full }, rec = { &create, 1 };
+/* The first thread waits at a device, which then interrupts. */
+static void try_devices(void) {
+    static const uint8_t waiting_bytes[74] = { 2, 0, 255, 1, [6 + 33] = 1, [54] = 74, [58] = 61, [61] = 7, 33, [68] = 255 };
+    static const uint8_t served_bytes[73] = { 2, 0, 0, 1, [54] = 73, [58] = 60, [60] = 1, 255, [67] = 255, 5 };
+    static const uint8_t waits[] = { RUMQATISS_WAIT_DEVICE, RUMQATISS_RECEIVER(0) }, unknown = RUMQATISS_INTERRUPT + 1;
+    static const uint8_t log[] = { RUMQATISS_CREATE, RUMQATISS_WAIT_DEVICE, 33, RUMQATISS_INTERRUPT, 0, 0, 0, 0, 2, 0, 5, 0, 0, 0 };
+    static struct { char record[24]; int is_served; } rows[] = {
+        { "0a00000000020005000000", 1 },
+        { "0a000000000e8005000000", 1 },  /* the devices behind it are pending too */
+        { "0a00000000000005000000", 0 },  /* an empty set */
+        { "0a00000000030005000000", 0 },  /* the device before it is first, and nobody waits there */
+        { "0a00000000fdff05000000", 0 }   /* all others of the terminals */
+    };
+    struct part waiting = { waiting_bytes, sizeof waiting_bytes }, served = { served_bytes, sizeof served_bytes };
     line = 0;
-    try_replay(fresh, all, sizeof full, RUMQATISS_DONE, wait, 64, 64, after);
+    try_board(first, (struct part){ waits, sizeof waits }, ROOM, MARK, RUMQATISS_DONE, wait, RUMQATISS_NOBODY, waiting);
+    try_board(waiting, (struct part){ waits, sizeof waits }, ROOM, MARK, RUMQATISS_NOBODY_RUNS, wait, RUMQATISS_NOBODY, none);
+    try_look_up(waiting, 0, RUMQATISS_DONE, 61, 13);
+    for (size_t i = 0; i < sizeof rows / sizeof rows[0]; i++) {
+        struct part rec = bytes_in(rows[i].record);
+        line = (int)i + 1;
+        if (rows[i].is_served) try_board(waiting, rec, ROOM, MARK, RUMQATISS_DONE, run_0, RUMQATISS_NOBODY, served);
+        else try_board(waiting, rec, ROOM, MARK, RUMQATISS_DONE, wait, RUMQATISS_NOBODY, waiting);
+    }
+    try_replay(fresh, (struct part){ log, sizeof log }, ROOM, RUMQATISS_DONE, run_0, 3, sizeof log, served);
+    try_replay(fresh, (struct part){ log, sizeof log - 1 }, ROOM, RUMQATISS_CUT_SHORT, wait, 2, 3, waiting);
+    try_replay(fresh, (struct part){ log, 2 }, ROOM, RUMQATISS_CUT_SHORT, run_0, 1, 1, first);
+    try_replay(fresh, (struct part){ log + 1, 1 }, ROOM, RUMQATISS_CUT_SHORT, halt, 0, 0, fresh);
+    try_replay(fresh, (struct part){ &unknown, 1 }, ROOM, RUMQATISS_UNKNOWN_KIND, halt, 0, 0, fresh);
+}
+
+/* The macros give the indexes in the order of lines and devices. */
+_Static_assert(RUMQATISS_DEVICE(3, 0) == 0 && RUMQATISS_DEVICE(3, 7) == 7 && RUMQATISS_DEVICE(4, 0) == 8, "devices");
+_Static_assert(RUMQATISS_DEVICE(6, 7) == 31 && RUMQATISS_TRANSMITTER(0) == 32 && RUMQATISS_RECEIVER(0) == 33, "terminals");
+_Static_assert(RUMQATISS_TRANSMITTER(7) == 46 && RUMQATISS_RECEIVER(7) == 47 && RUMQATISS_DEVICES == 48, "the last terminal");
+
+/* Images of edition 1 are taken, and what comes of them is of edition 2. */
+static void try_editions(void) {
+    static const uint8_t old_fresh[] = { 1, 253, 255, 0, 0, 0, 8, 0 };
+    static char old_pair[] = "010100020100" "2b00" "00001100" "01011e00" "01" "01ff00000000" "00ff00000000" "00" "02ff00000000" "00ff00000000" "00";
+    static char pair[] = "020100020100" "000000000000000000000000000000000000000000000000"
+                         "000000000000000000000000000000000000000000000000" "5b00" "00004100" "01014e00" "01"
+                         "01ff00000000" "00ff00000000" "00" "02ff00000000" "00ff00000000" "00";
+    static const uint8_t tick = RUMQATISS_TICK;
+    uint8_t b[RUMQATISS_LONGEST_IMAGE];
+    struct part old = bytes_in(old_pair), now = bytes_in(pair), changed = { b, 0 };
+    line = 0;
+    try_replay((struct part){ old_fresh, sizeof old_fresh }, none, ROOM, RUMQATISS_DONE, halt, 0, 0, fresh);
+    try_replay(old, none, ROOM, RUMQATISS_DONE, run_0, 0, 0, now);
+    try_board(old, (struct part){ &tick, 1 }, ROOM, MARK, RUMQATISS_DONE, run_0, RUMQATISS_NOBODY, now);
+    try_look_up(old, 1, RUMQATISS_DONE, 30, 13);
+    try_look_up(now, 1, RUMQATISS_DONE, 78, 13);
+    /* nobody waits at a device in edition 1 */
+    memcpy(b, old.at, changed.len = old.len);
+    b[30] = 7;
+    b[31] = 33;
+    try_board(changed, (struct part){ &tick, 1 }, ROOM, MARK, RUMQATISS_NO_IMAGE, halt, RUMQATISS_NOBODY, none);
+    /* the edition comes before its head's length, and under 8 bytes before both */
+    memcpy(b, fresh.at, fresh.len);
+    for (line = 0; line <= 255; line++) {
+        b[0] = (uint8_t)line;
+        for (changed.len = 0; changed.len < fresh.len; changed.len++) {
+            int is_length = changed.len < 8 || line == 1 || line == 2;
+            try_look_up(changed, 0, is_length ? RUMQATISS_BAD_LENGTH : RUMQATISS_OTHER_EDITION, 0, 0);
+        }
+    }
+}
+
+/* The longest log of 32 threads that wait: they are woken, all by a tick or each by its device, and wait again; at last slice ends,
+   while nobody runs. How many records that is. */
+static uint32_t fill_log(uint8_t log[RUMQATISS_LONGEST_LOG], int at_devices) {
+    uint32_t count = 0;
+    size_t at = 0;
+    memset(log, 0, RUMQATISS_LONGEST_LOG);
+    for (int i = 0; at + 33 <= RUMQATISS_LONGEST_LOG; i = (i + 1) % 32) {
+        if (at_devices) {
+            log[at] = RUMQATISS_INTERRUPT;
+            log[at + 1 + i / 8] = (uint8_t)(1 << i % 8);
+            log[at + 11] = RUMQATISS_WAIT_DEVICE;
+            log[at + 12] = (uint8_t)i;
+        } else {
+            log[at] = RUMQATISS_TICK;
+            memset(log + at + 1, RUMQATISS_WAIT_CLOCK, 32);
+        }
+        count += at_devices ? 2 : 33;
+        at += at_devices ? 13 : 33;
+    }
+    memset(log + at, RUMQATISS_SLICE_END, RUMQATISS_LONGEST_LOG - at);
+    return count + (uint32_t)(RUMQATISS_LONGEST_LOG - at);
+}
+
+/* The longest image: 32 threads, all of them waiting, for the clock or each at the device whose index is its number. */
+static void try_longest(int at_devices) {
+    static const uint8_t create = RUMQATISS_CREATE;
+    uint8_t log[32 * 3], full[RUMQATISS_LONGEST_IMAGE] = { 2, 31, 255, 32, [54] = 632 & 255, 632 >> 8 };
+    size_t n = 32;
+    memset(log, RUMQATISS_CREATE, n);
+    for (uint8_t i = 0; i < 32; i++) {
+        uint16_t body = (uint16_t)(56 + 32 * 4 + 32 + 13 * i);
+        log[n++] = at_devices ? RUMQATISS_WAIT_DEVICE : RUMQATISS_WAIT_CLOCK;
+        if (at_devices) log[n++] = i;
+        full[at_devices ? 6 + i : 5]++;
+        full[56 + 4 * i] = full[57 + 4 * i] = full[56 + 32 * 4 + i] = i;
+        full[58 + 4 * i] = (uint8_t)body;
+        full[59 + 4 * i] = (uint8_t)(body >> 8);
+        full[body] = at_devices ? 7 : 6;
+        full[body + 1] = at_devices ? i : 255;
+        full[body + 7] = 255;
+    }
+    struct part all = { log, n }, after = { full, sizeof full }, rec = { &create, 1 };
+    line = 0;
+    try_replay(fresh, all, sizeof full, RUMQATISS_DONE, wait, 64, (uint32_t)n, after);
     try_replay(fresh, all, sizeof full - 1, RUMQATISS_SHORT_BUFFER, halt, 0, 0, none);
     try_board(after, rec, ROOM, MARK, RUMQATISS_FULL, wait, RUMQATISS_NOBODY, none);
     try_look_up(after, 31, RUMQATISS_DONE, RUMQATISS_LONGEST_IMAGE - 13, 13);
-    /* The longest log on it: a tick, and all wait again; at last slice ends, while nobody runs. */
     static uint8_t longest[RUMQATISS_LONGEST_LOG];
-    for (size_t i = 0; i < sizeof longest; i++) longest[i] = i % 33 == 0 ? RUMQATISS_TICK : RUMQATISS_WAIT_CLOCK;
-    memset(longest + sizeof longest / 33 * 33, RUMQATISS_SLICE_END, sizeof longest % 33);
-    struct part ticks = { longest, sizeof longest };
-    try_replay(after, ticks, sizeof full, RUMQATISS_DONE, wait, RUMQATISS_LONGEST_LOG, RUMQATISS_LONGEST_LOG, after);
+    uint32_t count = fill_log(longest, at_devices);
+    try_replay(after, (struct part){ longest, sizeof longest }, sizeof full, RUMQATISS_DONE, wait, count, RUMQATISS_LONGEST_LOG, after);
 }
 
 /* Lengths at which two bytes, or the log's limit, end. */
@@ -440,12 +546,12 @@ static void try_large(void) {
     try_replay(fresh, (struct part){ b, RUMQATISS_LONGEST_LOG }, ROOM, RUMQATISS_DONE, halt, RUMQATISS_LONGEST_LOG, RUMQATISS_LONGEST_LOG, fresh);
     try_replay(fresh, (struct part){ b, RUMQATISS_LONGEST_LOG + 1 }, ROOM, RUMQATISS_LONG_LOG, halt, 0, 0, none);
     try_replay(fresh, (struct part){ b, RUMQATISS_LONGEST_LOG + 1 }, 0, RUMQATISS_LONG_LOG, halt, 0, 0, none);
-    /* 65,544 is 8 in two bytes, as this image's length field says */
+    /* 65,592 is 56 in two bytes, as this image's length field says */
     memcpy(b, fresh_bytes, sizeof fresh_bytes);
     try_board(large, rec, ROOM, MARK, RUMQATISS_BAD_LENGTH, halt, RUMQATISS_NOBODY, none);
     try_replay(large, large, ROOM, RUMQATISS_BAD_LENGTH, halt, 0, 0, none);
     try_look_up(large, 0, RUMQATISS_BAD_LENGTH, 0, 0);
-    b[0] = 2;
+    b[0] = 3;
     try_board(large, rec, ROOM, MARK, RUMQATISS_OTHER_EDITION, halt, RUMQATISS_NOBODY, none);
 }
 
@@ -480,13 +586,19 @@ int main(int argc, char **argv) {
     try_lengths();
     table = "refusals";
     try_refusals();
-    table = "longest image";
-    try_longest();
+    table = "devices";
+    try_devices();
+    table = "editions";
+    try_editions();
+    table = "longest image, at the clock";
+    try_longest(0);
+    table = "longest image, at devices";
+    try_longest(1);
     table = "large buffers";
     try_large();
     table = "null pointers";
     try_nulls();
-    printf("limits: record lengths, refusals, the longest image, large buffers and null pointers agree\n");
+    printf("limits: record lengths, refusals, devices, editions, the longest images, large buffers and null pointers agree\n");
     if (stack_used() > RUMQATISS_STACK) {
         printf("stack: %d bytes used, %d promised\n", (int)stack_used(), RUMQATISS_STACK);
         return 1;

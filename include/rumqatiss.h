@@ -1,7 +1,7 @@
-/* The nucleus of the cab terminal, for C: threads, a ready queue, and send, receive and reply between them.
+/* The nucleus of the cab terminal, for C: threads, a ready queue, send, receive and reply between them, and devices that interrupt.
 
    The library keeps nothing between two calls. The whole state of the nucleus is an IMAGE, a few hundred bytes that you
-   keep. One thing that happens is a RECORD, 1 to 6 bytes. You hand over an image and a record, and get the next image.
+   keep. One thing that happens is a RECORD, 1 to 11 bytes. You hand over an image and a record, and get the next image.
    Records written one behind another are a LOG. An image and the log since give the present image back after a power cut.
    examples/board.c shows the whole of it.
 
@@ -28,12 +28,16 @@
    This is proved of the library's source, and c/test.c tries it on what the compiler made of that. Not proved: that your stack is
    large enough. c/test.c measures what its calls use, which is no more than RUMQATISS_STACK bytes.
 
-   THE IMAGE begins with 8 bytes: the edition, which is 1; the last number given; the running thread's place, or 255; how many
-   threads live; how many are ready; how many wait for the clock; and the image's length, in two bytes, the lower first. Four bytes
-   follow for each live thread: its place (0 to 31), its number, and in two bytes where its body begins. Then come the places of the
-   ready threads, of those that wait for the clock, and the bodies (see rumqatiss_look_up).
+   THE IMAGE that is written is of edition 2. Its head has 56 bytes: the edition; the last number given; the running thread's place, or
+   255; how many threads live; how many are ready; how many wait for the clock; how many wait at each of the 48 devices, by rising
+   index; and the image's length, in two bytes, the lower first. Four bytes follow for each live thread: its place (0 to 31), its
+   number, and in two bytes where its body begins. Then come the places of the ready threads, of those that wait for the clock, of
+   those that wait at each device, and the bodies (see rumqatiss_look_up).
+   An image of edition 1, as builds with rules 1 wrote it, is taken too. Nobody in it waits at a device, and its head lacks the 48
+   counts: it has 8 bytes. The image that comes of it is of edition 2; rumqatiss_replay with an empty log changes nothing else of it.
 
-   THE RECORDS. The kind is the first byte. A number is one byte. A word is four bytes, the lowest first.
+   THE RECORDS. The kind is the first byte. A number and a device's index are one byte each. A word and a status are four bytes, the
+   lowest first. A set of devices is six bytes: the device with index i is bit i % 8 of byte i / 8.
 
      kind             bytes                 what happens
      1 create         01                    a new thread joins the back of ready; its number is given
@@ -44,20 +48,31 @@
      6 wait           06                    the running thread waits for the clock
      7 slice end      07                    the running thread goes to the back of ready, and the front runs
      8 tick           08                    all who wait for the clock join ready
+     9 wait at        09 index              the running thread waits at that device
+    10 interrupt      0A set status         the device with the lowest index of the set is served: who has waited there longest joins
+                                            ready, and the status is the word of its answer. Where nobody waits there, or the set is
+                                            empty, nothing changes. The set's other devices are not served: bring them again
+
+   THE DEVICES. The macros below give the index.
+
+     line             device                index
+     3 to 6           0 to 7                8 * (line - 3) + device: 0 to 31
+     7                terminal 0 to 7       32 + 2 * terminal where it transmits, 33 + 2 * terminal where it receives: 32 to 47
 
    THE CODES
 
      code  given exactly when                                                              by rumqatiss_..
       0    done                                                                            all
-      1    send, receive, reply or wait, and nobody runs                                   board
-      2    the number is above 253 (for receive: it is 254)                                board
+      1    send, receive, reply or a wait, and nobody runs                                 board
+      2    the number is above 253 (for receive: it is 254), or the index is above 47      board
       3    send, receive or reply names the running thread itself                          board
       4    send, reply, end or look-up: no live thread has this number                     board, look_up
       5    reply: the thread does not await the running thread's reply                     board
       6    create, and 32 threads live                                                     board
       7    `out` is shorter than the new image                                             board, fresh, replay
-      8    the image has under 8 bytes, or is not as long as it says                       board, replay, look_up
-      9    the image's edition is not 1                                                    board, replay, look_up
+      8    the image is shorter than its edition's head (under 8 bytes, whatever its
+           edition), or is not as long as it says                                          board, replay, look_up
+      9    the image's edition is unknown: it is neither 1 nor 2                           board, replay, look_up
      10    the image is that of no consistent state                                        board, replay, look_up
      11    the log is longer than 32,768 bytes                                             replay
      12    board: not exactly one record. replay: the last record is cut short             board, replay
@@ -74,16 +89,21 @@
 extern "C" {
 #endif
 
-#define RUMQATISS_LONGEST_IMAGE 584  /* bytes; no buffer need be longer */
-#define RUMQATISS_FRESH_IMAGE 8      /* bytes of the fresh image, the shortest of all */
+#define RUMQATISS_LONGEST_IMAGE 632  /* bytes; no buffer need be longer */
+#define RUMQATISS_FRESH_IMAGE 56     /* bytes of the fresh image, the shortest that is written */
 #define RUMQATISS_LONGEST_LOG 32768  /* bytes that rumqatiss_replay takes; save a new image before */
-#define RUMQATISS_LONGEST_RECORD 6   /* bytes */
-#define RUMQATISS_RECORD_LENGTHS { 1, 6, 2, 6, 2, 1, 1, 1 }  /* bytes of a record of kind 1, 2, .. 8 */
+#define RUMQATISS_LONGEST_RECORD 11  /* bytes */
+#define RUMQATISS_RECORD_LENGTHS { 1, 6, 2, 6, 2, 1, 1, 1, 2, 11 }  /* bytes of a record of kind 1, 2, .. 10 */
 #define RUMQATISS_NOBODY 255         /* no number; in a receive, anyone */
-#define RUMQATISS_RULES 1            /* the number of the rules that this build follows, raised by every later change of the rules */
-#define RUMQATISS_STACK 6144         /* bytes of your stack; a call was never measured to use more */
+#define RUMQATISS_RULES 2            /* the number of the rules that this build follows, raised by every later change of the rules */
+#define RUMQATISS_STACK 8080         /* bytes of your stack; a call was never measured to use more */
 
 /* Thread numbers run from 0 to 253. */
+
+#define RUMQATISS_DEVICES 48         /* an index is below this */
+#define RUMQATISS_DEVICE(line, device) (8 * ((line) - 3) + (device))  /* lines 3 to 6, devices 0 to 7 */
+#define RUMQATISS_TRANSMITTER(terminal) (32 + 2 * (terminal))         /* terminals 0 to 7, on line 7 */
+#define RUMQATISS_RECEIVER(terminal) (33 + 2 * (terminal))
 
 enum rumqatiss_kind {
     RUMQATISS_CREATE = 1,
@@ -93,7 +113,9 @@ enum rumqatiss_kind {
     RUMQATISS_END = 5,
     RUMQATISS_WAIT_CLOCK = 6,
     RUMQATISS_SLICE_END = 7,
-    RUMQATISS_TICK = 8
+    RUMQATISS_TICK = 8,
+    RUMQATISS_WAIT_DEVICE = 9,
+    RUMQATISS_INTERRUPT = 10
 };
 
 enum rumqatiss_code {
@@ -117,12 +139,12 @@ enum rumqatiss_code {
 enum rumqatiss_choice {
     RUMQATISS_RUN = 0,   /* the thread `next` runs; in all other cases `next` is 255 */
     RUMQATISS_HALT = 1,  /* no thread lives */
-    RUMQATISS_WAIT = 2,  /* sleep until the clock ticks */
-    RUMQATISS_STUCK = 3  /* threads live, and none of them runs or waits for the clock */
+    RUMQATISS_WAIT = 2,  /* sleep until the clock ticks or a device interrupts: somebody waits for one of them */
+    RUMQATISS_STUCK = 3  /* threads live, and none of them runs, or waits for the clock or at a device */
 };
 
 /* One record happens to an image.
-   Returns the code. The tests in their order: the image's (8 for under 8 bytes, 9, 8 for its length, 10), 13, 12, 1 to 6, 7.
+   Returns the code. The tests in their order: the image's (8 for under 8 bytes, 9, any other 8, 10), 13, 12, 1 to 6, 7.
    With 0 to 6 it was a record, and belongs in the log. With 12 and 13 it was none. 7 to 10 are about your own buffers: log nothing.
    choice, next  code 0: of the new image. Another code: of the image given, or halt where 8, 9 or 10 refused it.
    number        the new thread's number after a create with code 0; else 255.
@@ -133,7 +155,7 @@ uint8_t rumqatiss_board(const uint8_t *image, size_t image_len,
                         uint8_t *choice, uint8_t *next, uint8_t *number, uint16_t *length);
 
 /* The image of a nucleus with no threads, to begin with.
-   Returns 0, and length is 8; or 7, and length is 0. */
+   Returns 0, and length is 56; or 7, and length is 0. */
 uint8_t rumqatiss_fresh(uint8_t *out, size_t out_len, uint16_t *length);
 
 /* The records of a log happen to an image, one after another. An event that is refused (1 to 6) changes nothing, and the next follows.
@@ -152,12 +174,13 @@ uint8_t rumqatiss_replay(const uint8_t *image, size_t image_len,
 /* Where a thread's body stands in an image.
    Returns 0, and the body is the `length` bytes at image + offset. Or 8, 9, 10 as above, or 4; then offset and length are 0.
    A body, byte by byte:
-      0   standing: 1 running, 2 ready, 3 sending, 4 received and awaiting the reply, 5 receiving, 6 waiting for the clock
-      1   partner: whom it sends to (3, 4), or receives from (5; 255 is anyone); else 255
+      0   standing: 1 running, 2 ready, 3 sending, 4 received and awaiting the reply, 5 receiving, 6 waiting for the clock,
+          7 waiting at a device
+      1   partner: whom it sends to (3, 4), or receives from (5; 255 is anyone), or the device's index (7); else 255
       2   the word that it sends (3, 4), in four bytes, the lowest first; else 0
       6   the answer to its last finished call: the code, 0, or 16 where the partner ended,
-      7   from whom, or 255 where there is none,
-      8   and the word, in four bytes
+      7   from whom, or 255 where it is from no thread,
+      8   and the word, in four bytes: the one sent or replied, its own one back (16), or the device's status; else 0
      12   how many stand in its inbox; behind it their places, first come first. */
 uint8_t rumqatiss_look_up(const uint8_t *image, size_t image_len, uint8_t number,
                           uint16_t *offset, uint16_t *length);

@@ -3,7 +3,7 @@ use Prim.Native.Nat.{ℕ, _≤_}
 use mathlib.Core.Path.{_≡_}
 use mathlib.Core.Logic.{_≢_}
 use mathlib.Core.List.{List, []}
-use mathlib.Core.Bool.{true, not, _&&_}
+use mathlib.Core.Bool.{true, not, _&&_, _||_, or-true}
 use native.Mathlib.Decide.{ℕ-discrete}
 use native.Mathlib.Omega.{arith}
 use lib.ListN.{length, getD, List·getD-eq-default}
@@ -12,9 +12,10 @@ use borrow.Author.Tests.{eqb-true, eqb-false, eq-eqb, ne-eqb, leb-true, le-leb, 
 use Rattle.lists.specs.Lists.{none}
 use Rattle.lists.specs.Laws.{and-left, and-right, and-both}
 use Rattle.rules.specs.Values.{nobody}
-use Rattle.rules.specs.Model.{places, lastNumber, Empty, Ready, Sending, Awaiting, Waiting, Thread, vacant, Model, lineCount, thread, line}
+use Rattle.rules.specs.Model.{places, lastNumber, Empty, Ready, Sending, Awaiting, Waiting, AtDevice, Thread, vacant, Model, lineCount, thread, line}
 use Rattle.rules.specs.Consistent.{isNumber, asTable, isAnswer}
 use Rattle.order.specs.Sound.{Short, Fit, inside}
+use Rattle.order.specs.Belongs.{Lineless}
 use Rattle.audit.specs.Tests.{isClean, fits, home, Index}
 
 -- ---- a thread alone
@@ -34,13 +35,13 @@ clean-of t z e =
     λ i. record { number = n i; standing = z i; partner = p i; word = w i; code = c i; who = k i; answer = a i }
 
 module _ (t : Thread) (e : fits t ≡ true) where
-  test : t .standing ≢ Empty → isNumber (t .number) && (asTable (t .standing) (t .partner) (t .word) && (not (eqb (t .partner) (t .number)) && isAnswer (t .code) (t .who) (t .answer))) ≡ true
+  test : t .standing ≢ Empty → isNumber (t .number) && (asTable (t .standing) (t .partner) (t .word) && ((eqb (t .standing) AtDevice || not (eqb (t .partner) (t .number))) && isAnswer (t .code) (t .who) (t .answer))) ≡ true
   test k = rw (ne-eqb (t .standing) Empty k) at e
 
-  test₁ : t .standing ≢ Empty → asTable (t .standing) (t .partner) (t .word) && (not (eqb (t .partner) (t .number)) && isAnswer (t .code) (t .who) (t .answer)) ≡ true
+  test₁ : t .standing ≢ Empty → asTable (t .standing) (t .partner) (t .word) && ((eqb (t .standing) AtDevice || not (eqb (t .partner) (t .number))) && isAnswer (t .code) (t .who) (t .answer)) ≡ true
   test₁ k = and-right (isNumber (t .number)) _ (test k)
 
-  test₂ : t .standing ≢ Empty → not (eqb (t .partner) (t .number)) && isAnswer (t .code) (t .who) (t .answer) ≡ true
+  test₂ : t .standing ≢ Empty → (eqb (t .standing) AtDevice || not (eqb (t .partner) (t .number))) && isAnswer (t .code) (t .who) (t .answer) ≡ true
   test₂ k = and-right (asTable (t .standing) (t .partner) (t .word)) _ (test₁ k)
 
   cleaned : t .standing ≡ Empty → t ≡ vacant
@@ -51,19 +52,25 @@ module _ (t : Thread) (e : fits t ≡ true) where
   fit-of w = record {
     clean = cleaned;
     table = λ k. and-left (asTable (t .standing) (t .partner) (t .word)) _ (test₁ k);
-    answer = elim (ℕ-discrete (t .standing) Empty) [ yes z ↦ rw (cleaned z) | no k ↦ and-right (not (eqb (t .partner) (t .number))) _ (test₂ k) ];
+    answer = elim (ℕ-discrete (t .standing) Empty) [ yes z ↦ rw (cleaned z) | no k ↦ and-right (eqb (t .standing) AtDevice || not (eqb (t .partner) (t .number))) _ (test₂ k) ];
     number = λ k. leb-true _ _ (and-left (isNumber (t .number)) _ (test k));
-    apart = λ k. eqb-false _ _ (not-true _ (and-left (not (eqb (t .partner) (t .number))) _ (test₂ k)));
+    apart = λ k n. eqb-false _ _ (not-true _ (rw (ne-eqb (t .standing) AtDevice n) at (and-left (eqb (t .standing) AtDevice || not (eqb (t .partner) (t .number))) _ (test₂ k))));
     words = w;
   }
 
 -- and one that is fit passes it
+parted-of : (t : Thread) → Fit t → t .standing ≢ Empty → eqb (t .standing) AtDevice || not (eqb (t .partner) (t .number)) ≡ true
+parted-of t F k = elim (ℕ-discrete (t .standing) AtDevice) [
+  | yes e ↦ rw (eq-eqb (t .standing) AtDevice e)
+  | no n ↦ rw (ne-eqb (t .partner) (t .number) (F .apart k n)) (or-true (eqb (t .standing) AtDevice))
+]
+
 pub fit-fits : (t : Thread) → Fit t → fits t ≡ true
 fit-fits t F = elim (ℕ-discrete (t .standing) Empty) [
   | yes z ↦ rw (F .clean z)
   | no k ↦
       rw (ne-eqb (t .standing) Empty k)
-      (and-both _ _ (le-leb _ _ (F .number k)) (and-both _ _ (F .table k) (and-both (not (eqb (t .partner) (t .number))) _ (rw (ne-eqb _ _ (F .apart k))) (F .answer))))
+      (and-both _ _ (le-leb _ _ (F .number k)) (and-both _ _ (F .table k) (and-both (eqb (t .standing) AtDevice || not (eqb (t .partner) (t .number))) _ (parted-of t F k) (F .answer))))
 ]
 
 -- who sends or awaits names a number
@@ -75,8 +82,9 @@ named t e i j = elim (ℕ-discrete (t .standing) Sending) [
 
 -- ---- where a standing puts a thread
 
-pub home-none : (who : List ℕ) (t : Thread) → t .standing ≢ Ready → t .standing ≢ Sending → t .standing ≢ Awaiting → t .standing ≢ Waiting → home who t ≡ none
-home-none who t a b c d = rw (ne-eqb (t .standing) Ready a, ne-eqb (t .standing) Waiting d, ne-eqb (t .standing) Sending b, ne-eqb (t .standing) Awaiting c)
+pub home-none : (who : List ℕ) (t : Thread) → Lineless (t .standing) → t .standing ≢ Awaiting → home who t ≡ none
+home-none who t k c =
+    rw (ne-eqb (t .standing) Ready (k .0), ne-eqb (t .standing) Waiting (k .2), ne-eqb (t .standing) AtDevice (k .3), ne-eqb (t .standing) Sending (k .1), ne-eqb (t .standing) Awaiting c)
 
 -- ---- past the last line there is nothing
 

@@ -1,5 +1,5 @@
 -- Where all tests hold the nucleus is consistent (`judged`).
-use Prim.Native.Nat.{ℕ, zero, suc, _≤_, _<_, _^_}
+use Prim.Native.Nat.{ℕ, _-_, _≤_, _<_, _^_}
 use mathlib.Core.Path.{_≡_, refl, sym, ap, _∙_}
 use mathlib.Core.Logic.{_≢_}
 use mathlib.Core.List.{List, [], _∷_}
@@ -8,15 +8,16 @@ use native.Mathlib.Decide.{ℕ-discrete, decLt}
 use native.Mathlib.Omega.{arith}
 use lib.ListN.{length, getD}
 use lib.Dec.{eqb, ltb}
-use borrow.Author.Tests.{eqb-true, eq-eqb, ne-eqb, leb-true, lt-ltb, le-ltb, not-true}
+use borrow.Author.Tests.{eqb-true, eq-eqb, ne-eqb, leb-true, ltb-true, lt-ltb, le-ltb, not-true}
 use Rattle.lists.specs.Lists.{none, bit, count}
 use Rattle.lists.specs.Laws.{never, and-left, and-right}
 use Rattle.rules.specs.Values.{nobody}
-use Rattle.rules.specs.Model.{places, lastNumber, Empty, Ready, Sending, Awaiting, Waiting, Thread, vacant, Model, ready, clock, inbox, lineCount, thread, line}
+use Rattle.rules.specs.Model.{places, devices, queueCount, lastNumber, Empty, Ready, Sending, Awaiting, Waiting, AtDevice, Thread, vacant, Model, ready, clock, device, inbox, lineCount, thread, line}
 use Rattle.rules.specs.Rules.{hears, isNil}
-use Rattle.rules.specs.Consistent.{isNumber, belongs, Consistent}
+use Rattle.rules.specs.Consistent.{isNumber, asTable, belongs, Consistent}
 use Rattle.order.specs.Sound.{Fit, numbered, Sound, whole, out, inside}
-use Rattle.order.specs.Belongs.{in-none, in-ready, in-clock}
+use Rattle.order.specs.ByLine.{by-line, at-device, at-inbox}
+use Rattle.order.specs.Belongs.{Lineless, in-none, in-ready, in-clock, in-device}
 use Rattle.audit.specs.Tests.{fits, astray, home, runsAlone, unheard, placeTest, deskTest, Homes, Index}
 use Rattle.audit.specs.Alone.{fit-of, named, home-none, no-line, found}
 
@@ -70,41 +71,60 @@ module _ (m : Model) (sized : length (m .threads) ≡ places) (lined : length (m
   sender-home p z = rw (z, lt-ltb _ _ (partner p (omega arith) (omega arith)))
 
   sender-belongs : (p : ℕ) → thread m p .standing ≡ Sending → (q : ℕ) → eqb (home who (thread m p)) q ≡ belongs m (thread m p) q
-  sender-belongs p z zero = rw (sender-home p z, z) (ne-eqb (inbox (getD who (thread m p .partner) 0)) 0 (omega arith))
-  sender-belongs p z (suc zero) = rw (sender-home p z, z) (ne-eqb (inbox (getD who (thread m p .partner) 0)) 1 (omega arith))
-  sender-belongs p z (suc (suc r)) =
-      let v = lives-there p (omega arith) (omega arith) in
-      let low : thread m p .partner ≤ lastNumber = named (thread m p) (fit p .table (λ y. omega arith)) (omega arith) (omega arith) in
-      rw (sender-home p z, z)
-      (elim (ℕ-discrete (getD who (thread m p .partner) 0) r) [
-        | yes e ↦ eq-eqb (inbox (getD who (thread m p .partner) 0)) (inbox r) (ap inbox e) ∙ sym (eq-eqb (thread m p .partner) (thread m r .number) (sym (rw e at (v .1))))
-        | no k ↦ ne-eqb (inbox (getD who (thread m p .partner) 0)) (inbox r) (λ y. k (omega arith)) ∙ sym (ne-eqb (thread m p .partner) (thread m r .number) (λ y.
-            k (found m sized X r (thread m p .partner) (numbered (fit r) (omega arith)) (sym y))))
-      ])
+  sender-belongs p z =
+      let c = getD who (thread m p .partner) 0 in
+      let h : (q : ℕ) → eqb (home who (thread m p)) q ≡ eqb (inbox c) q = λ q. ap (λ (x : ℕ). eqb x q) (sender-home p z) in
+      by-line (λ q. eqb (home who (thread m p)) q ≡ belongs m (thread m p) q)
+      (h ready ∙ rw z (ne-eqb (inbox c) ready (omega arith)))
+      (h clock ∙ rw z (ne-eqb (inbox c) clock (omega arith)))
+      (λ i low. h (device i) ∙ ne-eqb (inbox c) (device i) (omega arith) ∙ sym (at-device m (thread m p) i low ∙ rw z))
+      (λ r. h (inbox r) ∙ same-inbox r ∙ sym (at-inbox m (thread m p) r ∙ rw z))
+    where
+      same-inbox : (r : ℕ) → eqb (inbox (getD who (thread m p .partner) 0)) (inbox r) ≡ eqb (thread m p .partner) (thread m r .number)
+      same-inbox r =
+          let v = lives-there p (omega arith) (omega arith) in
+          let low : thread m p .partner ≤ lastNumber = named (thread m p) (fit p .table (λ y. omega arith)) (omega arith) (omega arith) in
+          elim (ℕ-discrete (getD who (thread m p .partner) 0) r) [
+            | yes e ↦ eq-eqb (inbox (getD who (thread m p .partner) 0)) (inbox r) (ap inbox e) ∙ sym (eq-eqb (thread m p .partner) (thread m r .number) (sym (rw e at (v .1))))
+            | no k ↦ ne-eqb (inbox (getD who (thread m p .partner) 0)) (inbox r) (λ y. k (omega arith)) ∙ sym (ne-eqb (thread m p .partner) (thread m r .number) (λ y.
+                k (found m sized X r (thread m p .partner) (numbered (fit r) (omega arith)) (sym y))))
+          ]
+
+  -- one that waits at a device waits at one of the indexes, and that device's queue is its home
+  waiter : (p : ℕ) → thread m p .standing ≡ AtDevice → thread m p .partner < devices
+  waiter p z =
+      let t : asTable AtDevice (thread m p .partner) (thread m p .word) ≡ true = rw z at (fit p .table (λ y. omega arith)) in
+      ltb-true _ _ (and-left (ltb (thread m p .partner) devices) _ t)
+
+  waiter-home : (p : ℕ) → thread m p .standing ≡ AtDevice → home who (thread m p) ≡ device (thread m p .partner)
+  waiter-home p z = rw (z, lt-ltb _ _ (waiter p z))
 
   -- each line holds those who belong there
   stood : (p q : ℕ) → count p (line m q) ≡ bit (belongs m (thread m p) q)
   stood p q = elim (decLt p places) [
-    | no k ↦ W .beyond p q (omega arith) ∙ sym (rw (out m sized p (omega arith)) (ap bit (in-none m vacant (omega arith) (omega arith) (omega arith) q)))
+    | no k ↦ W .beyond p q (omega arith) ∙ sym (rw (out m sized p (omega arith)) (ap bit (in-none m vacant (omega arith) q)))
     | yes h ↦ elim (decLt q lineCount) [
       | no l ↦ rw (no-line m lined q (omega arith)) (past q (omega arith))
       | yes l ↦ W .within p q h l ∙ ap bit (ap (λ (x : ℕ). eqb x q) (at-home p h) ∙ belonging q l)
     ]
   ]
     where
-      past : (q : ℕ) → lineCount ≤ q → 0 ≡ bit (belongs m (thread m p) q)
-      past zero h = absurd (omega arith)
-      past (suc zero) h = absurd (omega arith)
-      past (suc (suc r)) h = elim (ℕ-discrete (thread m p .standing) Sending) [
+      -- nobody sends to a place past the last
+      no-sender : (r : ℕ) → places ≤ r → eqb (thread m p .standing) Sending && eqb (thread m p .partner) (thread m r .number) ≡ false
+      no-sender r h = elim (ℕ-discrete (thread m p .standing) Sending) [
         | no k ↦ rw (ne-eqb (thread m p .standing) Sending k)
         | yes z ↦
             let low = named (thread m p) (fit p .table (λ y. omega arith)) (omega arith) (omega arith) in
             rw (out m sized r (omega arith), ne-eqb (thread m p .partner) nobody (omega arith), z)
       ]
 
-      elsewhere : (q : ℕ) → q < lineCount → thread m p .standing ≢ Ready → thread m p .standing ≢ Sending → thread m p .standing ≢ Waiting
-          → home who (thread m p) ≡ none → eqb (home who (thread m p)) q ≡ belongs m (thread m p) q
-      elsewhere q l a b c e = rw e (ne-eqb none q (omega arith) ∙ sym (in-none m (thread m p) a b c q))
+      past : (q : ℕ) → lineCount ≤ q → 0 ≡ bit (belongs m (thread m p) q)
+      past =
+          by-line (λ q. lineCount ≤ q → 0 ≡ bit (belongs m (thread m p) q)) (λ h. absurd (omega arith)) (λ h. absurd (omega arith)) (λ i low h. absurd (omega arith))
+          (λ r h. sym (ap bit (at-inbox m (thread m p) r ∙ no-sender r (omega arith))))
+
+      elsewhere : (q : ℕ) → q < lineCount → Lineless (thread m p .standing) → home who (thread m p) ≡ none → eqb (home who (thread m p)) q ≡ belongs m (thread m p) q
+      elsewhere q l k e = rw e (ne-eqb none q (omega arith) ∙ sym (in-none m (thread m p) k q))
 
       turned : (a b : ℕ) → eqb a b ≡ eqb b a
       turned a b = elim (ℕ-discrete a b) [
@@ -114,14 +134,17 @@ module _ (m : Model) (sized : length (m .threads) ≡ places) (lined : length (m
 
       belonging : (q : ℕ) → q < lineCount → eqb (home who (thread m p)) q ≡ belongs m (thread m p) q
       belonging q l = elim (ℕ-discrete (thread m p .standing) Ready) [
-        | yes z ↦ rw z (turned ready q ∙ sym (in-ready m (thread m p) z q))
+        | yes z ↦ let e : home who (thread m p) ≡ ready = rw z in ap (λ (x : ℕ). eqb x q) e ∙ turned ready q ∙ sym (in-ready m (thread m p) z q)
         | no a ↦ elim (ℕ-discrete (thread m p .standing) Waiting) [
-          | yes z ↦ rw z (turned clock q ∙ sym (in-clock m (thread m p) z q))
+          | yes z ↦ let e : home who (thread m p) ≡ clock = rw z in ap (λ (x : ℕ). eqb x q) e ∙ turned clock q ∙ sym (in-clock m (thread m p) z q)
           | no c ↦ elim (ℕ-discrete (thread m p .standing) Sending) [
             | yes z ↦ sender-belongs p z q
-            | no b ↦ elim (ℕ-discrete (thread m p .standing) Awaiting) [
-              | yes z ↦ elsewhere q l a b c (rw (z, lt-ltb (getD who (thread m p .partner) 0) places (partner p (omega arith) (omega arith))))
-              | no d ↦ elsewhere q l a b c (home-none who (thread m p) a b d c)
+            | no b ↦ elim (ℕ-discrete (thread m p .standing) AtDevice) [
+              | yes z ↦ ap (λ (x : ℕ). eqb x q) (waiter-home p z) ∙ turned (device (thread m p .partner)) q ∙ sym (in-device m (thread m p) z (thread m p .partner) refl (waiter p z) q)
+              | no f ↦ elim (ℕ-discrete (thread m p .standing) Awaiting) [
+                | yes z ↦ elsewhere q l (a, b, c, f) (rw (z, lt-ltb (getD who (thread m p .partner) 0) places (partner p (omega arith) (omega arith))))
+                | no d ↦ elsewhere q l (a, b, c, f) (home-none who (thread m p) (a, b, c, f) d)
+              ]
             ]
           ]
         ]

@@ -12,11 +12,12 @@ use borrow.Author.Tests.{eqb-true, eq-eqb, ne-eqb, le-leb, lt-ltb}
 use Rattle.lists.specs.Lists.{none}
 use Rattle.lists.specs.Laws.{never, and-both}
 use Rattle.lists.specs.Tables.{bit-same}
-use Rattle.rules.specs.Model.{places, Running, Ready, Sending, Awaiting, Waiting, Model, ready, clock, inbox, lineCount, thread}
+use Rattle.rules.specs.Model.{places, Running, Ready, Sending, Awaiting, Waiting, AtDevice, Model, ready, clock, device, inbox, lineCount, thread}
 use Rattle.rules.specs.Rules.{isNil}
 use Rattle.rules.specs.Consistent.{isNumber, belongs, Consistent}
-use Rattle.order.specs.Sound.{sound, inside}
-use Rattle.order.specs.Belongs.{in-none}
+use Rattle.order.specs.ByLine.{at-device, at-inbox}
+use Rattle.order.specs.Sound.{sound, inside, at-index}
+use Rattle.order.specs.Belongs.{Lineless, in-none}
 use Rattle.audit.specs.Tests.{fits, home, runsAlone, unheard, placeTest, deskTest, Homes, Index}
 use Rattle.audit.specs.Alone.{fit-fits, home-none, found}
 
@@ -54,17 +55,23 @@ module _ (m : Model) (at who : List ℕ) (W : Homes m at) (X : Index m who) (C :
         | yes z ↦
             let v = meets p (omega arith) (omega arith) in
             let r = getD who (thread m p .partner) 0 in
-            in-line p (inbox r) h (omega (arith, v .0)) (rw (z, v .1, eq-eqb (thread m p .partner) (thread m p .partner) refl))
+            in-line p (inbox r) h (omega (arith, v .0)) (at-inbox m (thread m p) r ∙ rw (z, v .1, eq-eqb (thread m p .partner) (thread m p .partner) refl))
             ∙ sym (rw (z, lt-ltb r places (v .0)))
-        | no b ↦ in-no-line p h (in-none m (thread m p) a b c) ∙ sym (homeless a b c)
+        | no b ↦ elim (ℕ-discrete (thread m p .standing) AtDevice) [
+          | yes z ↦
+              let i = at-index m (sound m C) p z in
+              in-line p (device (thread m p .partner)) h (omega arith) (at-device m (thread m p) (thread m p .partner) i ∙ rw (z, eq-eqb (device (thread m p .partner)) (device (thread m p .partner)) refl))
+              ∙ sym (rw (z, lt-ltb _ _ i))
+          | no f ↦ in-no-line p h (in-none m (thread m p) (a, b, c, f)) ∙ sym (homeless (a, b, c, f))
+        ]
       ]
     ]
   ]
     where
-      homeless : thread m p .standing ≢ Ready → thread m p .standing ≢ Sending → thread m p .standing ≢ Waiting → home who (thread m p) ≡ none
-      homeless a b c = elim (ℕ-discrete (thread m p .standing) Awaiting) [
+      homeless : Lineless (thread m p .standing) → home who (thread m p) ≡ none
+      homeless k = elim (ℕ-discrete (thread m p .standing) Awaiting) [
         | yes z ↦ let v = meets p (omega arith) (omega arith) in rw (z, lt-ltb (getD who (thread m p .partner) 0) places (v .0))
-        | no d ↦ home-none who (thread m p) a b d c
+        | no d ↦ home-none who (thread m p) k d
       ]
 
   quiet : (p : ℕ) → unheard (thread m (getD who (thread m p .partner) 0)) (thread m p) ≡ true

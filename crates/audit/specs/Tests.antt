@@ -4,12 +4,12 @@ use Prim.Native.Nat.{ℕ, _≤_, _<_}
 use mathlib.Core.Path.{_≡_}
 use mathlib.Core.Logic.{_≢_}
 use mathlib.Core.List.{List}
-use mathlib.Core.Bool.{Bool, true, cond, not, _&&_}
+use mathlib.Core.Bool.{Bool, true, cond, not, _&&_, _||_}
 use lib.ListN.{getD}
 use lib.Dec.{eqb, ltb}
 use Rattle.lists.specs.Lists.{none, bit, count}
 use Rattle.rules.specs.Values.{nobody}
-use Rattle.rules.specs.Model.{places, lastNumber, Empty, Running, Ready, Sending, Awaiting, Waiting, Thread, Model, ready, clock, inbox, lineCount, thread, line}
+use Rattle.rules.specs.Model.{places, devices, lastNumber, Empty, Running, Ready, Sending, Awaiting, Waiting, AtDevice, Thread, Model, ready, clock, device, inbox, lineCount, thread, line}
 use Rattle.rules.specs.Rules.{idle, hears, isNil}
 use Rattle.rules.specs.Consistent.{isNumber, asTable, isAnswer}
 
@@ -21,9 +21,9 @@ isClean t = eqb (t .number) nobody && (eqb (t .partner) nobody && (eqb (t .word)
 abbrev pub fits : Thread → Bool
 fits t =
     cond (eqb (t .standing) Empty) (isClean t)
-    (isNumber (t .number) && (asTable (t .standing) (t .partner) (t .word) && (not (eqb (t .partner) (t .number)) && isAnswer (t .code) (t .who) (t .answer))))
+    (isNumber (t .number) && (asTable (t .standing) (t .partner) (t .word) && ((eqb (t .standing) AtDevice || not (eqb (t .partner) (t .number))) && isAnswer (t .code) (t .who) (t .answer))))
 
--- no line, and not none: the home of one whose partner is not live
+-- no line, and not none: the home of one whose partner is not live, or whose device is none
 abbrev pub astray : ℕ
 astray = 254
 
@@ -33,9 +33,10 @@ home who t =
     let r = getD who (t .partner) 0 in
     cond (eqb (t .standing) Ready) ready
     (cond (eqb (t .standing) Waiting) clock
+    (cond (eqb (t .standing) AtDevice) (cond (ltb (t .partner) devices) (device (t .partner)) astray)
     (cond (eqb (t .standing) Sending) (cond (ltb r places) (inbox r) astray)
     (cond (eqb (t .standing) Awaiting) (cond (ltb r places) none astray)
-    none)))
+    none))))
 
 -- the running thread is the one that runs
 abbrev pub runsAlone : ℕ → ℕ → Thread → Bool

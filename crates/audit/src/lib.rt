@@ -12,9 +12,11 @@ ghost use Rattle.table.specs.Cells.{modelOf, shown, Filled, Stands, asThread};
 ghost use Rattle.audit.specs.Tests.{isClean, fits as fitting, home as homeOf, runsAlone, unheard as quietTo, placeTest, deskTest};
 ghost use Rattle.audit.specs.Loops.{Indexed, Twice, AllPass};
 ghost use Rattle.audit.specs.Whole.{Members, Strangers};
+use lines::DEVICES;
 use lines::Links;
 use lines::NONE;
 use lines::PLACES;
+use rules::AT_DEVICE;
 use rules::AWAITING;
 use rules::EMPTY;
 use rules::LAST_NUMBER;
@@ -35,7 +37,10 @@ use table::Words;
 // The number of places, as a place is.
 const LIMIT: u8 = PLACES as u8;
 
-// The home of one whose partner is not live: no line, and not NONE.
+// The number of devices, as an index is.
+const INDEXES: u8 = DEVICES as u8;
+
+// The home of one whose partner is not live, or whose device is none: no line, and not NONE.
 const ASTRAY: u8 = 254;
 
 // The index of numbers has an entry for each byte: any may come as a number.
@@ -50,7 +55,7 @@ fn wide(x: u8) -> usize
 
 // ---- a thread alone
 
-// Partner and word by standing: the table of document 01.
+// Partner and word by standing: the table of document 01, and standing 7.
 fn as_table(standing: u8, partner: Number, word: u32) -> bool
     ensures { λ r. ⌜ r ≡ asTable standing (partner .0) word ⌝ }
 {
@@ -73,15 +78,18 @@ fn as_table(standing: u8, partner: Number, word: u32) -> bool
     if standing == WAITING {
         return resting;
     }
+    if standing == AT_DEVICE {
+        return (partner.0 < INDEXES) & (word == 0);
+    }
     false
 }
 
-// An answer has code 0 or ENDED and who a number, or it is that of a new thread.
+// An answer has code 0 or ENDED and who a number, or code 0 and who nobody.
 fn is_answer(code: u8, who: Number, word: u32) -> bool
     ensures { λ r. ⌜ r ≡ isAnswer code (who .0) word ⌝ }
 {
     ((code == codes::DONE) | (code == codes::ENDED)) & (who.0 <= LAST_NUMBER)
-        | (code == 0) & ((who.0 == NOBODY) & (word == 0))
+        | (code == codes::DONE) & (who.0 == NOBODY)
 }
 
 // Does the place hold the clean value of an empty one?
@@ -103,12 +111,13 @@ fn fits(t: Thread) -> bool
     let a = t.answer;
     let answer = is_answer(a.code, a.who, a.word);
     let table = as_table(t.standing, t.partner, t.word);
-    (t.number.0 <= LAST_NUMBER) & (table & ((t.partner.0 != t.number.0) & answer))
+    let apart = (t.standing == AT_DEVICE) | (t.partner.0 != t.number.0);
+    (t.number.0 <= LAST_NUMBER) & (table & (apart & answer))
 }
 
 // ---- a thread and its partner
 
-// The line into which its standing puts a thread. NONE where that is no line, and ASTRAY where the partner that it must have is not live.
+// The line into which its standing puts a thread. NONE where that is no line, and ASTRAY where the partner that it must have is not live, or no device.
 fn home(who: &[u8; ENTRIES], t: Thread) -> u8
     ensures { λ r. ⌜ r ≡ homeOf (now (who .entry)) (asThread t) ⌝ }
 {
@@ -118,6 +127,14 @@ fn home(who: &[u8; ENTRIES], t: Thread) -> u8
     }
     if standing == WAITING {
         return table::CLOCK_LINE;
+    }
+    if standing == AT_DEVICE {
+        let i = t.partner.0;
+        return if i < INDEXES {
+            table::DEVICE_LINES + i
+        } else {
+            ASTRAY
+        };
     }
     let r = who[wide(t.partner.0)];
     if standing == SENDING {

@@ -1,9 +1,12 @@
-// Runs the cases of "Loads that were counted", and every operation on states that are not consistent, and prints what each answers.
+// Runs the cases of "Loads that were counted" and those of document 02's P1, and every operation on states that are not consistent, and prints what each
+// answers.
 use nucleus::Reply;
 use nucleus::State;
 use rules::Number;
 use rules::Place;
 
+mod devices;
+mod images;
 mod mangled;
 
 const ANY: u8 = rules::NOBODY;
@@ -17,7 +20,9 @@ fn main() {
     waits();
     sticks();
     fills();
+    images::all();
     logs();
+    devices::all();
     mangled::all();
 }
 
@@ -54,9 +59,12 @@ fn fresh() {
     kept(s);
 }
 
-// The image, as it would be kept.
+// The image, as it would be kept. It is of edition 2.
 fn kept(s: State) {
-    console::text(b"    image ");
+    let mut buffer = [0u8; image::LONGEST];
+    let r = image::save(s, &mut buffer);
+    console::text(b"    saved in ");
+    console::say(r.length as u64, b" bytes: ");
     console::image_of(s);
     console::text(b"\n");
 }
@@ -128,13 +136,15 @@ fn fills() {
     console::say(s.live() as u64, b"\n");
 }
 
-// Two creates, a receive and a send; the same cut inside the send; and a kind that is not known.
+// Two creates, a receive and a send; the same cut inside the send; a wait at a device, cut short; and a kind that is not known.
 fn logs() {
     let log = [1u8, 1, 3, 255, 2, 0, 7, 0, 0, 0];
     replayed(b"log 01 01 03 ff 02 00 07 00 00 00", &log);
     replayed(b"cut to 9 bytes", &log[..9]);
-    let unknown = [9u8];
-    replayed(b"log 09", &unknown);
+    let short = [9u8];
+    replayed(b"log 09", &short);
+    let unknown = [11u8];
+    replayed(b"log 0b", &unknown);
 }
 
 // What a log comes to, from fresh.

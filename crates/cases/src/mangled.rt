@@ -1,11 +1,14 @@
 // States that are not consistent, each by one thing that is wrong in it. Every public operation on states is run on each of them: it is to give 14, or
 // halt, nobody, none, and to leave the state, and the buffer that it was lent, as it was. The same is run on the state that they are made of, which is
 // consistent, so that the output shows that the answers can be others.
+use super::devices::KEYPAD;
+use super::devices::keypad;
 use lines::Links;
 use logbook::Recorded;
 use nucleus::Reply;
 use nucleus::State;
 use rules::Choice;
+use rules::Device;
 use rules::Event;
 use rules::Number;
 use rules::Place;
@@ -25,17 +28,22 @@ const START: usize = 3;
 // Where the cells begin that name the last place of each line.
 const LAST: usize = lines::PLACES + lines::LINES;
 
+// The line of the device at which somebody waits.
+const KEYPAD_LINE: usize = (table::DEVICE_LINES + KEYPAD) as usize;
+
 pub fn all() {
     let s = cab();
     tried(b"nothing mangled", s);
     threads(s);
     queues(s);
+    devices(s);
     desks(s);
 }
 
-// Four threads, each at the place of its number: 0 sends 7 to 1, 1 waits for the clock, 2 runs, and 3 is ready.
+// Five threads, each at the place of its number: 0 sends 7 to 1, 1 waits for the clock, 2 runs, 3 is ready, and 4 waits at the keypad. (Two slice ends
+// bring 4 to run before that, and 2 behind it.)
 fn cab() -> State {
-    let log = [1u8, 1, 1, 1, 2, 1, 7, 0, 0, 0, 6];
+    let log = [1u8, 1, 1, 1, 1, 2, 1, 7, 0, 0, 0, 6, 7, 7, 9, KEYPAD];
     let r = logbook::replay(State::fresh(), &log);
     let s = r.state;
     s
@@ -47,6 +55,10 @@ fn threads(s: State) {
     tried(b"two threads, one number", byte(s, table::NUMBER + 3, 2));
     tried(b"a partner that does not live", byte(s, table::PARTNER, 9));
     tried(b"an answer of code 17", byte(s, table::CODE + 2, 17));
+    tried(
+        b"an answer of code 16 from nobody",
+        byte(s, table::CODE + 2, 16),
+    );
     tried(b"a word in a ready thread", word(s, table::WORD + 3, 1));
 }
 
@@ -57,6 +69,26 @@ fn queues(s: State) {
     tried(
         b"a place in two lines",
         link(t, LAST + table::CLOCK_LINE as usize, 3),
+    );
+}
+
+fn devices(s: State) {
+    tried(
+        b"a waiter at a device that is none",
+        byte(s, table::PARTNER + 4, lines::DEVICES as u8),
+    );
+    tried(
+        b"a waiter in another device's line",
+        byte(s, table::PARTNER + 4, KEYPAD + 1),
+    );
+    tried(
+        b"a word in a waiter at a device",
+        word(s, table::WORD + 4, 1),
+    );
+    let t = link(s, lines::PLACES + KEYPAD_LINE, lines::NONE);
+    tried(
+        b"a waiter in no line",
+        link(t, LAST + KEYPAD_LINE, lines::NONE),
     );
 }
 
@@ -98,7 +130,7 @@ fn running(mut s: State, p: Place) -> State {
 }
 
 fn one_more(mut s: State) -> State {
-    s.filled = 31;
+    s.filled = 63;
     s
 }
 
@@ -160,7 +192,7 @@ fn acted(s: State) {
     }
 }
 
-// Each of the eight events by its own method, and one by `step`.
+// Each of the ten events by its own method, and one by `step`.
 fn events(s: State) -> bool {
     let a = event(s, s.create());
     let b = event(s, s.send(Number(3), 7));
@@ -170,8 +202,10 @@ fn events(s: State) -> bool {
     let f = event(s, s.wait_clock());
     let g = event(s, s.slice_end());
     let h = event(s, s.tick());
-    let i = event(s, s.step(Event::Tick));
-    a & b & c & d & e & f & g & h & i
+    let i = event(s, s.wait_device(Device(KEYPAD)));
+    let j = event(s, s.interrupt(keypad(), 5));
+    let k = event(s, s.step(Event::Tick));
+    a & b & c & d & e & f & g & h & i & j & k
 }
 
 fn event(s: State, r: Reply) -> bool {

@@ -34,16 +34,19 @@ pub record Did (d : Desk) (b w l : List ℕ) (e : Event) (r : Outcome) (b′ w�
   pub number : r .number .0 ≡ given e (shown d b w l)
   pub seen : shown (r .desk) b′ w′ l′ ≡ acted e (shown d b w l)
   pub filled : r .desk .filled ≡ wordOf places (living e (shown d b w l))
-  -- the event is one that the code can hold: the type of its word says so to whoever is lent the word
+  -- the event is one that the code can hold: the types of its word and its pending set say so to whoever is lent them
   pub fits : Fits e
 
 -- an outcome that gives no number
 abbrev pub answered : ℕ → Desk → Outcome
 answered c d = record { code = c; desk = d; number = record { 0 = nobody } }
 
--- most events have no word
-pub no-word : 0 < 2 ^ 32
-no-word = omega arith
+-- an event with a word and no pending set, and most events have no word either
+pub word-fits : {x : ℕ} → x < 2 ^ 32 → (x < 2 ^ 32) × (0 < 2 ^ 32) × (0 < 2 ^ 16)
+word-fits h = (h, omega arith, omega arith)
+
+pub no-word : (0 < 2 ^ 32) × (0 < 2 ^ 32) × (0 < 2 ^ 16)
+no-word = word-fits (omega arith)
 
 -- ---- the set of filled places is that of the live ones
 

@@ -1,7 +1,7 @@
 -- Events 6, 7 and 8: wait for the clock, slice end, tick.
 use mathlib.Core.Path.{_≡_, refl, sym, _∙_}
 use mathlib.Core.List.{List, [], _∷_, _++_}
-use Prim.Native.Nat.{ℕ}
+use Prim.Native.Nat.{ℕ, _<_}
 use native.Mathlib.Omega.{arith}
 use borrow.Author.Tests.{eq-eqb, ne-eqb}
 use lib.Seq.{getD-set-other}
@@ -36,18 +36,18 @@ module _ {d : Desk} {b w l : List ℕ} (k : Stands d b w l) where
 
 -- ---- 8
 
--- what happens to one who waits for the clock
-abbrev pub rings : ℕ → Model → Model
-rings p = woken p 0 nobody 0
+-- what happens to one who waits for what comes from outside, and now gets the word w
+abbrev pub rings : ℕ → ℕ → Model → Model
+rings w p = woken p 0 nobody w
 
-pub rings-spare : Spares rings clock
-rings-spare p m = getD-set-other (m .lines) ready clock (line m ready ++ (p ∷ [])) [] (omega arith)
+pub rings-spare : (w q : ℕ) → ready < q → Spares (rings w) q
+rings-spare w q h p m = getD-set-other (m .lines) ready q (line m ready ++ (p ∷ [])) [] (omega arith)
 
-rung-drained : (ps : List ℕ) (m : Model) → rung ps m ≡ drained rings clock ps m
+rung-drained : (ps : List ℕ) (m : Model) → rung ps m ≡ drained (rings 0) clock ps m
 rung-drained [] m = refl
-rung-drained (p ∷ ps) m = rung-drained ps (rings p (relined clock ps m))
+rung-drained (p ∷ ps) m = rung-drained ps (rings 0 p (relined clock ps m))
 
-pub ticks : {d : Desk} {b w l : List ℕ} → Stands d b w l → {b′ w′ l′ : List ℕ} → Steps b w l b′ w′ l′ (drains rings clock) → {o : Outcome} → o ≡ answered 0 d → Did d b w l Tick o b′ w′ l′
+pub ticks : {d : Desk} {b w l : List ℕ} → Stands d b w l → {b′ w′ l′ : List ℕ} → Steps b w l b′ w′ l′ (drains (rings 0) clock) → {o : Outcome} → o ≡ answered 0 d → Did d b w l Tick o b′ w′ l′
 ticks {d} {b} {w} {l} k s =
     let m = shown d b w l in
     let t = stays {d = d} s in

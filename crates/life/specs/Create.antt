@@ -70,7 +70,7 @@ module _ {d : Desk} {b w l : List ℕ} (k : Stands d b w l) {c : ℕ} (a : Talli
     seat-loose =
         let m = shown d b w l in
         let h : thread m p .standing ≡ Empty = rw (← seat-is) (empty m (not-full m room)) in
-        loose (d .last .0) (d .running .0) b w l (sounds k) p (in-none m (thread m p) (omega arith) (omega arith) (omega arith))
+        loose (d .last .0) (d .running .0) b w l (sounds k) p (in-none m (thread m p) (omega arith))
 
     pub create-0 : {n : Number} → n .0 ≡ freeAfter b (d .last .0) → {b′ w′ l′ : List ℕ} → Steps b w l b′ w′ l′ (seated p (n .0)) → {x : ℕ} → With (d .filled) p x
         → Did d b w l Create (record { code = 0; desk = record { filled = x; last = n; running = d .running }; number = n }) b′ w′ l′

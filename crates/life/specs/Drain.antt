@@ -36,7 +36,7 @@ pub record One (g : ℕ → Model → Model) (q : ℕ) (b w l b′ w′ l′ : L
 -- the first of line q, if there was one
 pub record First (g : ℕ → Model → Model) (q : ℕ) (b w l b′ w′ l′ : List ℕ) (r : Bool) : Type 0 where
   pub some : r ≡ true → (p : ℕ) × (ps : List ℕ) × One g q b w l b′ w′ l′ p ps
-  pub none : r ≡ false → Steps b w l b′ w′ l′ (drains g q)
+  pub none : r ≡ false → (lineOf places l q ≡ []) × Steps b w l b′ w′ l′ (λ m. m)
 
 -- what g does to p leaves line q as it is
 abbrev pub Spares : (ℕ → Model → Model) → ℕ → Type 0
@@ -48,7 +48,7 @@ module _ (g : ℕ → Model → Model) {q : ℕ} (h : q < lineCount) {b w l l₁
       let n = nobody-there k h t e in
       record {
         some = λ y. never y refl;
-        none = λ _. record { whole = popped k h t .whole; seen = λ y x. rw (n .same, line-at y x b w l q h, n .empty) };
+        none = λ _. (n .empty, record { whole = popped k h t .whole; seen = λ y x. rw (n .same) });
       }
 
   pub first-some : Spares g q → (r ≡ Lists.none → ⊥) → {b₂ w₂ l₂ : List ℕ} → Steps b w l₁ b₂ w₂ l₂ (g r) → First g q b w l b₂ w₂ l₂ true
@@ -92,4 +92,7 @@ module _ {g : ℕ → Model → Model} {q : ℕ} {b₀ w₀ l₀ b w l b′ w′
   pub drain-end : q < lineCount → r ≡ false → Steps b₀ w₀ l₀ b′ w′ l′ (drains g q)
   drain-end i h =
       let a = s .none h in
-      record { whole = a .whole; seen = λ y x. a .seen y x ∙ rw (line-at y x b w l q i, line-at y x b₀ w₀ l₀ q i) (sym (k .goes y x)) }
+      record {
+        whole = a .1 .whole;
+        seen = λ y x. a .1 .seen y x ∙ rw (line-at y x b₀ w₀ l₀ q i) (sym (k .goes y x ∙ ap (λ (ps : List ℕ). drained g q ps (modelOf y x b w l)) (a .0)));
+      }

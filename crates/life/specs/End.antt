@@ -11,16 +11,16 @@ use lib.Dec.{eqb}
 use lib.ListN.{getD}
 use Rattle.lists.specs.Lists.{none}
 use Rattle.filled.specs.Filled.{wordOf, excluding}
-use Rattle.rules.specs.Model.{places, lastNumber, Empty, Sending, Thread, vacant, Model, inbox, allPlaces, thread, line, livesAt}
+use Rattle.rules.specs.Model.{places, devices, lastNumber, Empty, Sending, Thread, vacant, Model, inbox, allPlaces, thread, line, livesAt}
 use Rattle.rules.specs.Rules.{placeOf, put, outOfLine, handedBack, letGo, end, refusal}
 use Rattle.rules.specs.declared.Number.{Number}
 use Rattle.rules.specs.declared.Event.the-variants.{End}
-use Rattle.order.specs.Sound.{Sound, small}
+use Rattle.order.specs.Sound.{Sound, small, at-index}
 use Rattle.order.specs.Places.{placed, live-placed}
 use Rattle.order.specs.HandBack.{Handed, hands, lets}
 use Rattle.order.specs.End.{endLast}
 use Rattle.order.specs.Order.{written}
-use Rattle.table.specs.Cells.{cell, shown, Stands, inboxLines, inbox-line}
+use Rattle.table.specs.Cells.{cell, threadOf, shown, Stands, inboxLines, inbox-line}
 use Rattle.table.specs.Rows.{thread-at}
 use Rattle.table.specs.Stores.{Stored}
 use Rattle.table.specs.Clean.{emptied}
@@ -77,13 +77,20 @@ module _ {d : Desk} {b w l : List ℕ} {n p : ℕ} (k : EndsAt d b w l n p) wher
       later = subst Sound (sym let-seen) (lets allPlaces (shown d b₁ w₁ l₁) (handed .step .kept .sound) n end-low .step .kept .sound)
 
       pub end-served : Served b₂ p
-      end-served e =
-          let m = shown d b₂ w₂ l₂ in
-          let at = thread-at (d .last .0) (d .running .0) b₂ w₂ l₂ p end-place in
-          let three : thread m p .standing ≡ Sending = ap (λ (u : Thread). u .standing) at ∙ e in
-          let v = live-placed m later (thread m p .partner) (later .served p (omega arith) (omega arith)) in
-          let i : placeOf m (thread m p .partner) < places = small m later _ (v .0) in
-          subst (λ (q : ℕ). q < places) (ap (λ (u : Thread). placeOf m (u .partner)) at ∙ found-is (d .last .0) (d .running .0) (getD b₂ (cell 2 p) 0) b₂ w₂ l₂) i
+      end-served = record {
+        sends = λ e.
+            let three : thread m p .standing ≡ Sending = ap (λ (u : Thread). u .standing) at ∙ e in
+            let v = live-placed m later (thread m p .partner) (later .served p (omega arith) (omega arith)) in
+            let i : placeOf m (thread m p .partner) < places = small m later _ (v .0) in
+            subst (λ (q : ℕ). q < places) (ap (λ (u : Thread). placeOf m (u .partner)) at ∙ found-is (d .last .0) (d .running .0) (getD b₂ (cell 2 p) 0) b₂ w₂ l₂) i;
+        waits = λ e. subst (λ (u : Thread). u .partner < devices) at (at-index m later p (ap (λ (u : Thread). u .standing) at ∙ e));
+      }
+        where
+          m : Model
+          m = shown d b₂ w₂ l₂
+
+          at : thread m p ≡ threadOf b₂ w₂ p
+          at = thread-at (d .last .0) (d .running .0) b₂ w₂ l₂ p end-place
 
       -- it leaves its line, and its place is cleaned
       pub ended : {e : Desk} {l₃ b₃ w₃ : List ℕ} → Leaves d b₂ l₂ p e l₃ → Stored b₂ w₂ p emptied b₃ w₃ → Turns d b w l e b₃ w₃ l₃ (end n)

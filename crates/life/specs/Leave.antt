@@ -10,7 +10,7 @@ use lib.ListN.{getD}
 use Rattle.lists.specs.Lists.{none, without}
 use Rattle.lists.specs.Laws.{by-test}
 use Rattle.lines.specs.Lines.{lineOf, Turned}
-use Rattle.rules.specs.Model.{places, lineCount, Running, Ready, Sending, Waiting, Thread, Model, ready, clock, inbox}
+use Rattle.rules.specs.Model.{places, devices, lineCount, Running, Ready, Sending, Waiting, AtDevice, Thread, Model, ready, clock, device, inbox}
 use Rattle.rules.specs.Rules.{placeOf, runs, leave, outOfLine}
 use Rattle.table.specs.Cells.{cell, threadOf, shown, Whole, inboxLines, inbox-line}
 use Rattle.table.specs.Rows.{thread-at}
@@ -23,11 +23,13 @@ abbrev pub lineIn : List ℕ → ℕ → ℕ
 lineIn b p =
     cond (eqb (getD b (cell 1 p) 0) Ready) ready
     (cond (eqb (getD b (cell 1 p) 0) Sending) (inbox (found b (getD b (cell 2 p) 0)))
-    (cond (eqb (getD b (cell 1 p) 0) Waiting) clock none))
+    (cond (eqb (getD b (cell 1 p) 0) Waiting) clock
+    (cond (eqb (getD b (cell 1 p) 0) AtDevice) (device (getD b (cell 2 p) 0)) none)))
 
--- if it sends, its partner stands at a place
-abbrev pub Served : List ℕ → ℕ → Type 0
-Served b p = getD b (cell 1 p) 0 ≡ Sending → found b (getD b (cell 2 p) 0) < places
+-- if it sends, its partner stands at a place, and if it waits at a device, that is one
+pub record Served (b : List ℕ) (p : ℕ) : Type 0 where
+  pub sends : getD b (cell 1 p) 0 ≡ Sending → found b (getD b (cell 2 p) 0) < places
+  pub waits : getD b (cell 1 p) 0 ≡ AtDevice → getD b (cell 2 p) 0 < devices
 
 -- it leaves, whatever the words are
 abbrev pub Leaves : Desk → List ℕ → List ℕ → ℕ → Desk → List ℕ → Type 0
@@ -40,14 +42,19 @@ outAs t p m =
     cond (eqb (t .standing) Running) (runs none m)
     (cond (eqb (t .standing) Ready) (leave ready p m)
     (cond (eqb (t .standing) Sending) (leave (inbox (placeOf m (t .partner))) p m)
-    (cond (eqb (t .standing) Waiting) (leave clock p m) m)))
+    (cond (eqb (t .standing) Waiting) (leave clock p m)
+    (cond (eqb (t .standing) AtDevice) (leave (device (t .partner)) p m) m))))
 
 abbrev offLine : ℕ → ℕ → Model → Model
 offLine q p m = cond (eqb q none) m (leave q p m)
 
 -- whom it sends to stands at a place
 pub sent-low : (b : List ℕ) (p : ℕ) {s k r : ℕ} → Served b p → s ≡ getD b (cell 1 p) 0 → s ≡ Sending → k ≡ getD b (cell 2 p) 0 → r ≡ found b k → r < places
-sent-low b p v e z f g = rw (g, f) (v (sym e ∙ z))
+sent-low b p v e z f g = rw (g, f) (v .sends (sym e ∙ z))
+
+-- where it waits is a device
+pub waits-low : (b : List ℕ) (p : ℕ) {s k : ℕ} → Served b p → s ≡ getD b (cell 1 p) 0 → s ≡ AtDevice → k ≡ getD b (cell 2 p) 0 → k < devices
+waits-low b p v e z f = rw f (v .waits (sym e ∙ z))
 
 -- the line, by the standing that is read
 module _ (b : List ℕ) (p : ℕ) {s : ℕ} (e : s ≡ getD b (cell 1 p) 0) where
@@ -65,8 +72,12 @@ module _ (b : List ℕ) (p : ℕ) {s : ℕ} (e : s ≡ getD b (cell 1 p) 0) wher
       pub line-waiting : s ≡ Waiting → clock ≡ lineIn b p
       line-waiting z = rw (off Ready n₂, off Sending n₃, eq-eqb _ Waiting (sym e ∙ z))
 
-      pub line-none : (s ≡ Waiting → ⊥) → none ≡ lineIn b p
-      line-none n₆ = rw (off Ready n₂, off Sending n₃, off Waiting n₆)
+      module _ (n₆ : s ≡ Waiting → ⊥) where
+        pub line-device : s ≡ AtDevice → {k : ℕ} → k ≡ getD b (cell 2 p) 0 → 2 + k ≡ lineIn b p
+        line-device z f = rw (off Ready n₂, off Sending n₃, off Waiting n₆, eq-eqb _ AtDevice (sym e ∙ z), f)
+
+        pub line-none : (s ≡ AtDevice → ⊥) → none ≡ lineIn b p
+        line-none n₇ = rw (off Ready n₂, off Sending n₃, off Waiting n₆, off AtDevice n₇)
 
 line-low : (b : List ℕ) (p : ℕ) → Served b p → (lineIn b p ≡ none → ⊥) → lineIn b p < lineCount
 line-low b p s n =
@@ -74,10 +85,12 @@ line-low b p s n =
     by-test (eqb st Ready)
     (λ e. rw e (omega arith))
     (λ e. by-test (eqb st Sending)
-    (λ f. let i = s (eqb-true st Sending f) in rw (e, f) (omega arith))
+    (λ f. let i = s .sends (eqb-true st Sending f) in rw (e, f) (omega arith))
     (λ f. by-test (eqb st Waiting)
     (λ g. rw (e, f, g) (omega arith))
-    (λ g. absurd (n (rw (e, f, g))))))
+    (λ g. by-test (eqb st AtDevice)
+    (λ h. let i = s .waits (eqb-true st AtDevice h) in rw (e, f, g, h) (omega arith))
+    (λ h. absurd (n (rw (e, f, g, h)))))))
 
 pub leaves-low : (b : List ℕ) (p : ℕ) {q : ℕ} → Served b p → q ≡ lineIn b p → (q ≡ none → ⊥) → q < lineCount
 leaves-low b p s u z = rw u (line-low b p s (λ y. z (u ∙ y)))
@@ -101,11 +114,13 @@ module _ (d : Desk) (b l : List ℕ) {p : ℕ} (h : p < places) where
         (λ e. rw (u, c, e))
         (λ e. by-test (eqb st Sending)
         (λ f.
-        let i = s (eqb-true st Sending f) in
+        let i = s .sends (eqb-true st Sending f) in
         rw (u, c, e, f, found-is (d .last .0) (d .running .0) pa b w l, ne-eqb (inbox (found b pa)) none (omega arith)))
         (λ f. by-test (eqb st Waiting)
         (λ g. rw (u, c, e, f, g))
-        (λ g. rw (u, c, e, f, g))))
+        (λ g. by-test (eqb st AtDevice)
+        (λ h. let i = s .waits (eqb-true st AtDevice h) in rw (u, c, e, f, g, h, ne-eqb (device pa) none (omega arith)))
+        (λ h. rw (u, c, e, f, g, h)))))
 
     pub leaves-not : q ≡ none → Leaves d b l p d l
     leaves-not z w k = record { whole = k; filled = refl; seen = sym (out-as w ∙ rw z) }

@@ -43,7 +43,7 @@ module _ {b w l : List ℕ} (k : SoundOn b w l) (n : ℕ) {p : ℕ} (h : p < pla
     let-loose =
         let m = modelOf (k .last) (k .running) b w l in
         let st : thread m p .standing ≡ Awaiting = eqb-true _ _ (and-left _ (eqb (thread m p .partner) n) (asked (k .last) (k .running) ∙ z)) in
-        loose (k .last) (k .running) b w l (k .sound) p (in-none m (thread m p) (omega arith) (omega arith) (omega arith))
+        loose (k .last) (k .running) b w l (k .sound) p (in-none m (thread m p) (omega arith))
 
     pub let-yes : {b′ w′ l′ : List ℕ} → Steps b w l b′ w′ l′ (backs n p) → Steps b w l b′ w′ l′ (let-step n p)
     let-yes s = record { whole = s .whole; seen = λ y x. s .seen y x ∙ rw (asked y x, z) }

@@ -1,5 +1,6 @@
 pub mod Drain
 pub mod Clock
+pub mod Device
 pub mod Number
 pub mod Create
 pub mod HandBack

@@ -1,5 +1,6 @@
 // Events 6, 7 and 8: wait for the clock, slice end, tick.
-ghost use Rattle.rules.specs.Model.{clock};
+ghost use Prim.Native.Nat.{_<_};
+ghost use Rattle.rules.specs.Model.{lineCount, ready, clock};
 ghost use Rattle.rules.specs.declared.Event.the-variants.{WaitClock, SliceEnd, Tick};
 ghost use Rattle.table.specs.Cells.{Whole, Stands};
 ghost use Rattle.verbs.specs.Steps.{Steps};
@@ -45,26 +46,26 @@ pub fn slice_end(b: &mut Blocks, w: &mut Words, l: &mut Links, d: Desk) -> Outco
     answer(codes::DONE, e)
 }
 
-// Wakes the first clock waiter. False where nobody waits for the clock.
-fn ring(b: &mut Blocks, w: &mut Words, l: &mut Links) -> bool
-    requires { ⌜ Whole (now b) (now w) (now l) ⌝ }
-    ensures { λ r. ⌜ First rings clock (now (b .entry)) (now (w .entry)) (now (l .entry)) (now (b .exit)) (now (w .exit)) (now (l .exit)) r ⌝ }
+// Wakes the first of line q, the clock's or a device's, with this word. False where nobody stands in it.
+pub fn ring(b: &mut Blocks, w: &mut Words, l: &mut Links, q: u8, word: u32) -> bool
+    requires { ⌜ Whole (now b) (now w) (now l) × (ready < q) × (q < lineCount) ⌝ }
+    ensures { λ r. ⌜ First (rings word) q (now (b .entry)) (now (w .entry)) (now (l .entry)) (now (b .exit)) (now (w .exit)) (now (l .exit)) r ⌝ }
 {
-    let p = lines::pop(l, table::CLOCK_LINE);
+    let p = lines::pop(l, q);
     if p == lines::NONE {
         return false;
     }
-    verbs::wake(b, w, l, Place(p), 0, Number(rules::NOBODY), 0);
+    verbs::wake(b, w, l, Place(p), codes::DONE, Number(rules::NOBODY), word);
     true
 }
 
 // Wakes all clock waiters, first come first.
 fn ring_all(b: &mut Blocks, w: &mut Words, l: &mut Links)
     requires { ⌜ Whole (now b) (now w) (now l) ⌝ }
-    ensures { λ r. ⌜ Steps (now (b .entry)) (now (w .entry)) (now (l .entry)) (now (b .exit)) (now (w .exit)) (now (l .exit)) (drains rings clock) ⌝ }
+    ensures { λ r. ⌜ Steps (now (b .entry)) (now (w .entry)) (now (l .entry)) (now (b .exit)) (now (w .exit)) (now (l .exit)) (drains (rings 0) clock) ⌝ }
 {
     loop {
-        if !ring(b, w, l) {
+        if !ring(b, w, l, table::CLOCK_LINE, 0) {
             return;
         }
     }

@@ -99,6 +99,10 @@ fn line_of(b: &Blocks, p: Place) -> u8
     if standing == rules::WAITING {
         return table::CLOCK_LINE;
     }
+    if standing == rules::AT_DEVICE {
+        let i = table::partner_of(b, p);
+        return table::DEVICE_LINES + i.0;
+    }
     lines::NONE
 }
 

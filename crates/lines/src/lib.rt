@@ -13,8 +13,10 @@ ghost use Rattle.lines.specs.Steps.{Behind, Sought, DoneUpTo};
 // The sizes. Their other home is `Sizes.antt` of crate `lists`, which the contracts cite; no other line names a number of places or lines.
 pub const PLACES: usize = 32;
 
-// The lines beside the inboxes, of which each place has one.
-pub const QUEUES: usize = 2;
+pub const DEVICES: usize = 48;
+
+// The lines beside the inboxes, of which each place has one: ready, the clock's, and one for each device.
+pub const QUEUES: usize = 2 + DEVICES;
 
 pub const LINES: usize = QUEUES + PLACES;
 

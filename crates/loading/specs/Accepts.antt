@@ -1,18 +1,25 @@
 -- What the promise of load comes to: 0 for the images of consistent states and for nothing else, the state that was saved, and one answer for any bytes.
-use mathlib.Core.Path.{_≡_, sym, _∙_}
+use mathlib.Core.Path.{_≡_, refl, sym, ap, _∙_}
 use mathlib.Core.Logic.{_≢_}
 use mathlib.Core.List.{List}
+use mathlib.Core.Bool.{true}
 use lib.Dec.{eqb, ltb}
 use lib.ListN.{length}
+use borrow.Author.Tests.{eq-eqb}
+use Rattle.lists.specs.Lists.{bit, count}
 use Rattle.lists.specs.Laws.{by-test}
 use Rattle.lists.specs.Bytes.{twoAt}
-use Prim.Native.Nat.{ℕ}
+use Prim.Native.Nat.{ℕ, _≤_}
 use native.Mathlib.Omega.{arith}
-use Rattle.rules.specs.Model.{Model}
+use Rattle.rules.specs.Model.{AtDevice, Model, device, thread, line}
+use Rattle.rules.specs.Consistent.{belongs}
+use Rattle.order.specs.ByLine.{at-device}
+use Rattle.order.specs.Sound.{sound, at-index}
 use Rattle.nucleus.specs.View.{view, Shows}
 use Rattle.nucleus.specs.Settled.{settled, shows-one}
 use Rattle.saving.specs.Format.{shortestHead, totalAt, headLength}
-use Rattle.loading.specs.Loads.{rowAt, headCode, Image, Foreign, Refused, Taken, Judged, foreign, accepted, Loads, bad-head, good-head, Refuses, by-head, by-whole}
+use Rattle.saving.specs.declared.format.Row.{Row}
+use Rattle.loading.specs.Loads.{rowAt, headCode, ImageAs, Image, Foreign, Refused, Taken, Judged, foreign, accepted, Loads, bad-head, good-head, Refuses, by-head, by-whole}
 use Rattle.loading.specs.Judges.{head-image}
 use Rattle.loading.specs.Injective.{image-one}
 use Rattle.loading.specs.declared.Loaded.{Loaded}
@@ -74,6 +81,18 @@ pub loads-back : {s : List ℕ} {r : Loaded} (m : Model) → Image m s → Loads
 loads-back m I (bad-head n R) = absurd (n (head-image I))
 loads-back m I (good-head h (foreign f R)) = absurd (f m I)
 loads-back m I (good-head h (accepted A)) = record { consists = A .consists; seen = image-one (A .image) I }
+
+-- ---- an edition without device queues has nobody who waits at a device: a standing 7 in edition 1 gets 10
+
+pub none-waits : {row : Row} {m : Model} {s : List ℕ} → ImageAs row m s → row .queues ≤ device 0 → (p : ℕ) → thread m p .standing ≢ AtDevice
+none-waits {row} {m} I h p z =
+    let S = sound m (I .consistent) in
+    let i = at-index m S p z in
+    let q = device (thread m p .partner) in
+    let a : belongs m (thread m p) q ≡ true = at-device m (thread m p) (thread m p .partner) i ∙ rw (z, eq-eqb q q refl) in
+    let b : count p (line m q) ≡ 1 = S .stood p q ∙ ap bit a in
+    let c : _≡_ {A = ℕ} 0 1 = rw (I .holds q (omega arith) (omega arith)) at b in
+    omega arith
 
 -- ---- one answer
 

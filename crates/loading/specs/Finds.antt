@@ -7,7 +7,7 @@ use lib.ListN.{length, take, drop, getD, length-append, length-drop}
 use lib.Seq.{drop-drop, drop-at, getD-drop, take-at}
 use Rattle.lists.specs.Bytes.{twoBytes, twoAt, wordAt, two-back, word-back}
 use Rattle.rules.specs.Model.{Model, inbox, thread, line, live}
-use Rattle.saving.specs.Format.{rowOf, lengthsAt, totalAt, headLength, entryLength, inboxLengthAt, bodyLength, livePlaces, bodyOf, bodies, joined, lengths, tail, head, encodeAs}
+use Rattle.saving.specs.Format.{rowOf, lengthsAt, totalAt, headLength, entryLength, inboxLengthAt, bodyLength, livePlaces, bodyOf, bodies, joined, queueLengths, tail, head, encodeAs}
 use Rattle.saving.specs.Editions.{known-few, known-row}
 use Rattle.saving.specs.Queues.{queuesFrom, queues-start, queues-step, lengths-length, length-found}
 use Rattle.saving.specs.Longest.{encode-length, longest-as}
@@ -81,14 +81,14 @@ module _ {row : Row} {m : Model} {s : List ℕ} (I : ImageAs row m s) where
   pub long-enough : headLength row ≤ length s
   long-enough = let z = size-is in omega arith
 
-  in-head : drop lengthsAt s ≡ lengths row m ++ (twoBytes (headLength row + length (tail row m)) ++ tail row m)
+  in-head : drop lengthsAt s ≡ queueLengths row m ++ (twoBytes (headLength row + length (tail row m)) ++ tail row m)
   in-head = ap (drop lengthsAt) (sym (I .bytes)) ∙ lengths-at row m
 
   pub size-found : (q : ℕ) → q < row .queues → getD s (lengthsAt + q) 0 ≡ length (line m q)
   size-found q h = byte-from s lengthsAt in-head q ∙ length-found (line m) (twoBytes (headLength row + length (tail row m)) ++ tail row m) row q h
 
   total : drop (totalAt row) s ≡ twoBytes (headLength row + length (tail row m)) ++ tail row m
-  total = drop-from s lengthsAt in-head (row .queues) ∙ drop-at (lengths row m) (twoBytes (headLength row + length (tail row m)) ++ tail row m) (row .queues) (lengths-length (line m) row)
+  total = drop-from s lengthsAt in-head (row .queues) ∙ drop-at (queueLengths row m) (twoBytes (headLength row + length (tail row m)) ++ tail row m) (row .queues) (lengths-length (line m) row)
 
   pub length-is : twoAt s (totalAt row) ≡ length s
   length-is = let h = short in let z = size-is in two-first s (totalAt row) total ∙ two-back (headLength row + length (tail row m)) (omega arith) ∙ sym size-is

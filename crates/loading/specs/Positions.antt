@@ -12,7 +12,7 @@ use Rattle.lists.specs.Search.{count-upFrom}
 use Rattle.lists.specs.Only.{only-out, only-in}
 use Rattle.lists.specs.Bytes.{twoBytes}
 use Rattle.rules.specs.Model.{places, Model, thread, allPlaces, livesAt, live}
-use Rattle.saving.specs.Format.{lengthsAt, headLength, entryLength, livePlaces, bodyOf, bodies, contents, lengths, queues, firstBody, tail, head, encodeAs}
+use Rattle.saving.specs.Format.{lengthsAt, headLength, entryLength, livePlaces, bodyOf, bodies, contents, queueLengths, queues, firstBody, tail, head, encodeAs}
 use Rattle.saving.specs.Longest.{live-length, contents-length, head-length}
 use Rattle.saving.specs.Parts.{bodies-append, contents-append}
 use Rattle.saving.specs.declared.format.Row.{Row}
@@ -42,9 +42,9 @@ module _ (row : Row) (m : Model) where
   at-tail n = ap (λ (k : ℕ). drop (k + n) (head row m ++ tail row m)) (sym (head-length row m)) ∙ drop-append-add (head row m) (tail row m) n
 
   -- behind the first four bytes: the lengths of the queues, and the total
-  pub lengths-at : drop lengthsAt (encodeAs row m) ≡ lengths row m ++ (twoBytes (headLength row + length (tail row m)) ++ tail row m)
+  pub lengths-at : drop lengthsAt (encodeAs row m) ≡ queueLengths row m ++ (twoBytes (headLength row + length (tail row m)) ++ tail row m)
   unfolding encodeAs
-  lengths-at = append-assoc (lengths row m) (twoBytes (headLength row + length (tail row m))) (tail row m)
+  lengths-at = append-assoc (queueLengths row m) (twoBytes (headLength row + length (tail row m))) (tail row m)
 
   -- behind the head and the contents: the queues, and then the bodies
   pub queues-at : drop (headLength row + entryLength * live m) (encodeAs row m) ≡ queues row m ++ bodies m (livePlaces m)

@@ -11,10 +11,10 @@ use lib.ListN.{length, take, drop, length-append, length-take}
 use lib.Seq.{take-at, take-take, drop-drop}
 use Rattle.lists.specs.Laws.{by-test}
 use Rattle.rules.specs.Model.{Model}
-use Rattle.rules.specs.Rules.{idle, _gives_else_, noNumber, noSource, ownNumber, notLive, notAwaiting, full, refusal, outcome, next, after}
+use Rattle.rules.specs.Rules.{idle, _gives_else_, noNumber, noSource, noDevice, ownNumber, notLive, notAwaiting, full, refusal, outcome, next, after}
 use Rattle.rules.specs.Consistent.{Fits}
 use Rattle.rules.specs.declared.Event.{Event}
-use Rattle.rules.specs.declared.Event.the-variants.{Create, Send, Receive, Reply, End, WaitClock, SliceEnd, Tick}
+use Rattle.rules.specs.declared.Event.the-variants.{Create, Send, Receive, Reply, End, WaitClock, SliceEnd, Tick, WaitDevice, Interrupt}
 use Rattle.rules.specs.declared.Choice.{Choice}
 use Rattle.order.specs.Keeps.{AllFit}
 use Rattle.journal.specs.Format.{recordOf, writeAt}
@@ -73,6 +73,8 @@ refusal-low (End t) m = gives-low (noNumber (t .0)) 2 _ (omega arith) (gives-low
 refusal-low WaitClock m = gives-low (idle m) 1 0 (omega arith) (omega arith)
 refusal-low SliceEnd m = omega arith
 refusal-low Tick m = omega arith
+refusal-low (WaitDevice i) m = gives-low (idle m) 1 _ (omega arith) (gives-low (noDevice (i .0)) 2 0 (omega arith) (omega arith))
+refusal-low (Interrupt s w) m = omega arith
 
 -- ---- one event more
 leaves-none : {s : State} {log : List ℕ} {at : ℕ} → Begins s log at → SessionLeaves s log at [] s log at
@@ -162,7 +164,7 @@ whole-log n es =
     ap (take (length (logOf w))) (ap logOf (f .same) ∙ log-append w (f .others)) ∙ take-at (logOf w) (logOf (f .others)) (length (logOf w)) refl
 
 -- up to the position q: the records of these events, one after the other, and nothing else
-pub record Holds (log : List ℕ) (q : ℕ) (es : List Event) : Type 0 where
+pub record LogHolds (log : List ℕ) (q : ℕ) (es : List Event) : Type 0 where
   pub bytes : take q log ≡ logOf es
   pub position : q ≡ length (logOf es)
   pub within : q ≤ length log
@@ -170,11 +172,11 @@ pub record Holds (log : List ℕ) (q : ℕ) (es : List Event) : Type 0 where
   pub fits : AllFit es
 
 -- At first it holds nothing, whatever stands in the buffer.
-pub holds-none : (log : List ℕ) → Holds log 0 []
+pub holds-none : (log : List ℕ) → LogHolds log 0 []
 holds-none log = record { bytes = refl; position = refl; within = omega arith; short = omega arith; fits = tt {0} }
 
 -- Recording goes on where it ended: the log is then that of one history.
-pub holds-on : {s t : State} {log end : List ℕ} {at q : ℕ} {es fs : List Event} → Holds log at es → Consists s → Session s log at fs t end q → Holds end q (es ++ fs)
+pub holds-on : {s t : State} {log end : List ℕ} {at q : ℕ} {es fs : List Event} → LogHolds log at es → Consists s → Session s log at fs t end q → LogHolds end q (es ++ fs)
 holds-on {es = es} {fs = fs} H k z =
     let L = session-leaves k (H .within) (H .short) z in
     let n : length (logOf (es ++ fs)) ≡ length (logOf es) + length (logOf fs) = ap length (log-append es fs) ∙ length-append (logOf es) (logOf fs) in
@@ -186,13 +188,13 @@ holds-on {es = es} {fs = fs} H k z =
       fits = fit-append es fs (H .fits) (L .fits);
     }
 
-module _ {log : List ℕ} {q : ℕ} {es : List Event} (H : Holds log q es) where
+module _ {log : List ℕ} {q : ℕ} {es : List Event} (H : LogHolds log q es) where
   cut-is : (n : ℕ) → n ≤ q → take n log ≡ take n (logOf es)
   cut-is n h = sym (take-take n q log h) ∙ ap (take n) (H .bytes)
 
   -- Cut to its first n bytes, it holds the events whose records are whole in them, in any buffer that has their bytes: half a record behind them may be
   -- written over.
-  pub holds-cut : (n : ℕ) → n ≤ q → {buf : List ℕ} {j : ℕ} → j ≡ length (logOf (wholeIn n es)) → take j buf ≡ take j log → j ≤ length buf → Holds buf j (wholeIn n es)
+  pub holds-cut : (n : ℕ) → n ≤ q → {buf : List ℕ} {j : ℕ} → j ≡ length (logOf (wholeIn n es)) → take j buf ≡ take j log → j ≤ length buf → LogHolds buf j (wholeIn n es)
   holds-cut n h {j = j} e y g =
       let v = whole-front n es .within in
       record { bytes = y ∙ cut-is j (omega arith) ∙ ap (λ (i : ℕ). take i (logOf es)) e ∙ whole-log n es; position = e; within = g; short = omega (arith, H .short); fits = fit-whole n es (H .fits) }

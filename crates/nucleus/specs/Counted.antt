@@ -1,7 +1,7 @@
 -- The counted cases (document 01), as the contract of `State::step` gives them: whatever replies meet it, event by event, they end as the table says.
 use mathlib.Core.Path.{_≡_, refl, ap, subst, _∙_}
 use mathlib.Core.List.{List, [], _∷_}
-use Prim.Native.Nat.{ℕ, zero, suc, _≤_}
+use Prim.Native.Nat.{ℕ, _≤_}
 use native.Mathlib.Omega.{arith}
 use Rattle.lists.specs.Lists.{bit}
 use Rattle.lists.specs.Every.{Every, each, every}
@@ -71,13 +71,14 @@ gave-consistent m n h C = record {
 }
   where
     same : (p q : ℕ) → belongs m (thread m p) q ≡ belongs (gave n m) (thread m p) q
-    same p zero = refl
-    same p (suc zero) = refl
-    same p (suc (suc r)) = refl
+    same p q = refl
 
 wrapped : Consistent (gave lastNumber (after one fresh))
 wrapped = gave-consistent (after one fresh) lastNumber (omega arith) (always one fresh fresh-consistent (omega arith, tt))
 
 pub starts : Every (λ c. Consistent (c .start)) cases
 unfolding cases
-starts = (fresh-consistent, (fresh-consistent, (fresh-consistent, (fresh-consistent, (fresh-consistent, (fresh-consistent, (fresh-consistent, (fresh-consistent, (fresh-consistent, (fresh-consistent, (fresh-consistent, (fresh-consistent, (wrapped, (fresh-consistent, (fresh-consistent, (fresh-consistent, (fresh-consistent, tt)))))))))))))))))
+starts = (new, (new, (new, (new, (new, (new, (new, (new, (new, (new, (new, (new, (wrapped, (new, (new, (new, (new, (new, (new, (new, (new, (new, (new, (new, (new, (new, (new, (new, (new, tt)))))))))))))))))))))))))))))
+  where
+    new : Consistent fresh
+    new = fresh-consistent

@@ -9,12 +9,14 @@ ghost use Rattle.rules.specs.declared.Choice.{Choice};
 ghost use Rattle.rules.specs.declared.Choice.the-variants.{Halt};
 ghost use Rattle.table.specs.Cells.{asThread};
 ghost use Rattle.nucleus.specs.View.{view, deskOf, laid, Consists, Shows, Looked};
-ghost use Rattle.rules.specs.declared.Event.the-variants.{Create, Send, Receive, Reply as ReplyTo, End, WaitClock, SliceEnd, Tick};
+ghost use Rattle.rules.specs.declared.Event.the-variants.{Create, Send, Receive, Reply as ReplyTo, End, WaitClock, SliceEnd, Tick, WaitDevice, Interrupt};
 ghost use Rattle.nucleus.specs.Answers.{Meets, Answers};
 use lines::Links;
 use rules::Choice;
+use rules::Device;
 use rules::Event;
 use rules::Number;
+use rules::Pending;
 use rules::Place;
 use rules::codes;
 use table::Blocks;
@@ -249,5 +251,22 @@ impl State {
         ensures { λ r. ⌜ Answers self Tick r ⌝ }
     {
         self.step(Event::Tick)
+    }
+
+    // Event 9: the running thread waits at a device.
+    pub fn wait_device(self, device: Device) -> Reply
+        ensures { λ r. ⌜ Answers self (WaitDevice device) r ⌝ }
+    {
+        self.step(Event::WaitDevice { device: device })
+    }
+
+    // Event 10: devices raise an interrupt, and the first of them is served.
+    pub fn interrupt(self, pending: Pending, status: u32) -> Reply
+        ensures { λ r. ⌜ Answers self (Interrupt pending status) r ⌝ }
+    {
+        self.step(Event::Interrupt {
+            pending: pending,
+            status: status,
+        })
     }
 }

@@ -1,19 +1,19 @@
 -- What code 0 says of each event: none of the reasons for a refusal holds.
-use Prim.Native.Nat.{ℕ, suc}
+use Prim.Native.Nat.{ℕ, suc, _<_}
 use mathlib.Core.Path.{_≡_, refl}
 use mathlib.Core.Logic.{_≢_}
 use mathlib.Core.Bool.{Bool, true, false, cond, _||_, or-true}
 use native.Mathlib.Omega.{arith}
 use lib.Dec.{eqb}
-use borrow.Author.Tests.{eqb-true, eqb-false, ltb-false, le-leb, not-true, not-false}
+use borrow.Author.Tests.{eqb-true, eqb-false, ltb-true, ltb-false, le-leb, not-true, not-false}
 use Rattle.lists.specs.Lists.{none}
 use Rattle.lists.specs.Laws.{by-test, never, and-left, and-right}
 use Rattle.rules.specs.Values.{nobody}
-use Rattle.rules.specs.Model.{lastNumber, Awaiting, Model, thread}
-use Rattle.rules.specs.Rules.{placeOf, idle, mine, emptyPlace, noNumber, noSource, ownNumber, notLive, notAwaiting, full, refusal}
+use Rattle.rules.specs.Model.{devices, lastNumber, Awaiting, Model, thread}
+use Rattle.rules.specs.Rules.{placeOf, idle, mine, emptyPlace, noNumber, noSource, noDevice, ownNumber, notLive, notAwaiting, full, refusal}
 use Rattle.rules.specs.Consistent.{isNumber}
 use Rattle.rules.specs.declared.Event.{Event}
-use Rattle.rules.specs.declared.Event.the-variants.{Create, Send, Receive, Reply, End, WaitClock, SliceEnd, Tick}
+use Rattle.rules.specs.declared.Event.the-variants.{Create, Send, Receive, Reply, End, WaitClock, SliceEnd, Tick, WaitDevice, Interrupt}
 use Rattle.order.specs.Places.{not-full}
 
 abbrev pub Accepted : Event → Model → Type 0
@@ -26,6 +26,8 @@ Accepted (End t) m = placeOf m (t .0) ≢ none
 Accepted WaitClock m = m .running ≢ none
 Accepted SliceEnd m = Unit {0}
 Accepted Tick m = Unit {0}
+Accepted (WaitDevice i) m = (m .running ≢ none) × (i .0 < devices)
+Accepted (Interrupt s w) m = Unit {0}
 
 -- a code is 0: the test in front of it failed, and the code behind it is 0
 passed : (b : Bool) (c d : ℕ) → cond b (suc c) d ≡ 0 → (b ≡ false) × (d ≡ 0)
@@ -74,3 +76,8 @@ accepted (End t) m z =
 accepted WaitClock m z = eqb-false _ _ (passed (idle m) 0 0 z .0)
 accepted SliceEnd m z = tt
 accepted Tick m z = tt
+accepted (WaitDevice i) m z =
+    let a = passed (idle m) 0 _ z in
+    let b = passed (noDevice (i .0)) 1 0 (a .1) in
+    (eqb-false _ _ (a .0), ltb-true _ _ (not-false _ (b .0)))
+accepted (Interrupt s w) m z = tt

@@ -5,7 +5,7 @@ use Rattle.rules.specs.Model.{vacant, Model}
 use Rattle.rules.specs.Rules.{placeOf, nextNumber, newcomer, emptyPlace, act, refusal}
 use Rattle.rules.specs.Consistent.{Fits}
 use Rattle.rules.specs.declared.Event.{Event}
-use Rattle.rules.specs.declared.Event.the-variants.{Create, Send, Receive, Reply, End, WaitClock, SliceEnd, Tick}
+use Rattle.rules.specs.declared.Event.the-variants.{Create, Send, Receive, Reply, End, WaitClock, SliceEnd, Tick, WaitDevice, Interrupt}
 use Rattle.order.specs.Sound.{Sound}
 use Rattle.order.specs.Places.{placed}
 use Rattle.order.specs.Moves.{Step}
@@ -17,6 +17,7 @@ use Rattle.order.specs.Reply.{replies}
 use Rattle.order.specs.End.{ends-last}
 use Rattle.order.specs.Order.{written}
 use Rattle.order.specs.Clock.{rests, slice-ends, ticks}
+use Rattle.order.specs.Devices.{attends, interrupts}
 use Rattle.order.specs.Accepted.{Accepted, accepted}
 
 abbrev pub Done : Event → Model → Type 0
@@ -28,16 +29,20 @@ Done (End t) m = Swap m (placeOf m (t .0)) vacant (act (End t) m)
 Done WaitClock m = Step m (act WaitClock m)
 Done SliceEnd m = Step m (act SliceEnd m)
 Done Tick m = Step m (act Tick m)
+Done (WaitDevice i) m = Step m (act (WaitDevice i) m)
+Done (Interrupt s w) m = Step m (act (Interrupt s w) m)
 
 done : (e : Event) (m : Model) → Sound m → Fits e → Accepted e m → Done e m
 done Create m S f a = creates m S a
-done (Send d w) m S f a = sends m S (a .0) (d .0) w f (a .1) (a .2)
+done (Send d w) m S f a = sends m S (a .0) (d .0) w (f .0) (a .1) (a .2)
 done (Receive n) m S f a = receives m S (a .0) (n .0) (a .1) (a .2)
-done (Reply t w) m S f a = replies m S (a .0) (t .0) w f (a .3)
+done (Reply t w) m S f a = replies m S (a .0) (t .0) w (f .0) (a .3)
 done (End t) m S f a = let at = placed m (t .0) a in rw (written m S (t .0) a) (ends-last m S (placeOf m (t .0)) (t .0) (at .0) (at .1))
 done WaitClock m S f a = rests m S a
 done SliceEnd m S f a = slice-ends m S
 done Tick m S f a = ticks m S
+done (WaitDevice i) m S f a = attends m S (a .0) (i .0) (a .1)
+done (Interrupt s w) m S f a = interrupts m S s w (f .0)
 
 -- an accepted event, by its code
 pub does : (e : Event) (m : Model) → Sound m → Fits e → refusal e m ≡ 0 → Done e m
@@ -52,3 +57,5 @@ acts-sound (End t) m D = D .sound
 acts-sound WaitClock m D = D .kept .sound
 acts-sound SliceEnd m D = D .kept .sound
 acts-sound Tick m D = D .kept .sound
+acts-sound (WaitDevice i) m D = D .kept .sound
+acts-sound (Interrupt s w) m D = D .kept .sound

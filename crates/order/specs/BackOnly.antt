@@ -13,11 +13,11 @@ use Rattle.lists.specs.Laws.{by-test, never}
 use Rattle.lists.specs.Counts.{count-append, none-among, among-some}
 use Rattle.lists.specs.Without.{without-append, without-behind, without-other}
 use Rattle.lists.specs.Tables.{bit-low}
-use Rattle.rules.specs.Model.{Running, Ready, Sending, Waiting, Model, ready, clock, inbox, thread, line, allPlaces}
+use Rattle.rules.specs.Model.{Running, Ready, Sending, Waiting, AtDevice, Model, ready, clock, device, inbox, thread, line, allPlaces}
 use Rattle.rules.specs.Rules.{placeOf, leave, outOfLine, idle, starts, dispatched, act, refusal, next}
 use Rattle.rules.specs.Consistent.{belongs, Fits, Consistent}
 use Rattle.rules.specs.declared.Event.{Event}
-use Rattle.rules.specs.declared.Event.the-variants.{Create, Send, Receive, Reply, End, WaitClock, SliceEnd, Tick}
+use Rattle.rules.specs.declared.Event.the-variants.{Create, Send, Receive, Reply, End, WaitClock, SliceEnd, Tick, WaitDevice, Interrupt}
 use Rattle.order.specs.Sound.{Sound, member, sound}
 use Rattle.order.specs.Stood.{line-distinct}
 use Rattle.order.specs.Places.{placed, elsewhere}
@@ -116,7 +116,8 @@ module _ (old : List ℕ) where
       by-test (eqb st Running) (λ a. rw a g) (λ a.
       by-test (eqb st Ready) (λ b. rw (a, b) (grew-leave m S ready p g)) (λ b.
       by-test (eqb st Sending) (λ c. rw (a, b, c) (grew-leave m S (inbox (placeOf m (thread m p .partner))) p g)) (λ c.
-      by-test (eqb st Waiting) (λ d. rw (a, b, c, d) (grew-leave m S clock p g)) (λ d. rw (a, b, c, d) g))))
+      by-test (eqb st Waiting) (λ d. rw (a, b, c, d) (grew-leave m S clock p g)) (λ d.
+      by-test (eqb st AtDevice) (λ e. rw (a, b, c, d, e) (grew-leave m S (device (thread m p .partner)) p g)) (λ e. rw (a, b, c, d, e) g)))))
 
   -- the front is started
   grew-start : (m : Model) → Sound m → Grew m → (l : List ℕ) → line m ready ≡ l → Grew (starts l m)
@@ -144,6 +145,8 @@ acted (End t) m S A D =
 acted WaitClock m S A D = steps m _ S D
 acted SliceEnd m S A D = steps m _ S D
 acted Tick m S A D = steps m _ S D
+acted (WaitDevice i) m S A D = steps m _ S D
+acted (Interrupt s w) m S A D = steps m _ S D
 
 -- ---- the theorem
 

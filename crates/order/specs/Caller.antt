@@ -23,7 +23,7 @@ module _ (m : Model) (S : Sound m) (busy : m .running ≢ none) where
   alive = λ z. let o = one in omega arith
 
   pub nowhere : (q : ℕ) → belongs m (thread m (m .running)) q ≡ false
-  nowhere = let o = one in in-none m (thread m (m .running)) (omega arith) (omega arith) (omega arith)
+  nowhere = let o = one in in-none m (thread m (m .running)) (omega arith)
 
   -- to the back of ready
   pub yields : Step m (runs none (readied (m .running) m))

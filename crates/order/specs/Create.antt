@@ -29,7 +29,7 @@ filled m S p n h zero-p low free = changed m p (newcomer n) n (m .running) _ S (
     words = (omega arith, omega arith);
   };
   turn = aside m S p (newcomer n) (omega arith) h (omega arith);
-  shift = joins m S p (newcomer n) ready (omega arith) (in-none m (thread m p) (omega arith) (omega arith) (omega arith)) (in-ready m (newcomer n) refl);
+  shift = joins m S p (newcomer n) ready (omega arith) (in-none m (thread m p) (omega arith)) (in-ready m (newcomer n) refl);
   standing = omega arith;
   own = λ s k _ e. unused m S n free s (numbered (S .fits s) (omega arith)) (sym e);
   others = λ s k z. unused m S n free s z;

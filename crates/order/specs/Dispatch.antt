@@ -29,7 +29,7 @@ module _ (m : Model) (S : Sound m) (rest : m .running ≡ none) where
       let t = stands Running nobody 0 (thread m p) in
       moved m p t p _ S (plain m S p lived Running _ _ _ p _ (omega arith) refl (as-told m S p)
       (starting m S p t rest lived refl)
-      (leaves m S p t ready (omega arith) l (drops-front m p ready l e) (in-ready m (thread m p) two) (in-none m t (omega arith) (omega arith) (omega arith))))
+      (leaves m S p t ready (omega arith) l (drops-front m p ready l e) (in-ready m (thread m p) two) (in-none m t (omega arith))))
 
   begins : (l : List ℕ) → line m ready ≡ l → Kept m (starts l m) × Settled (starts l m)
   begins [] e = (still m S .kept, λ _. e)

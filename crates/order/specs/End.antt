@@ -9,12 +9,13 @@ use native.Mathlib.Decide.{ℕ-discrete}
 use native.Mathlib.Omega.{arith}
 use lib.Dec.{eqb}
 use borrow.Author.Tests.{eq-eqb, ne-eqb}
-use Rattle.lists.specs.Lists.{none, count}
-use Rattle.rules.specs.Model.{places, lastNumber, lineCount, Empty, Running, Ready, Sending, Awaiting, Waiting, Thread, vacant, Model, ready, clock, inbox, thread, line, allPlaces}
+use Rattle.lists.specs.Lists.{none, bit, count}
+use Rattle.rules.specs.Model.{places, devices, lastNumber, lineCount, Empty, Running, Ready, Sending, Awaiting, Waiting, AtDevice, Thread, vacant, Model, ready, clock, device, inbox, thread, line, allPlaces}
 use Rattle.rules.specs.Rules.{placeOf, put, leave, outOfLine, handedBack, letGo}
 use Rattle.rules.specs.Consistent.{belongs}
-use Rattle.order.specs.Sound.{Fit, Sound, small}
-use Rattle.order.specs.Belongs.{in-none, in-ready, in-clock, in-inbox}
+use Rattle.order.specs.ByLine.{at-inbox}
+use Rattle.order.specs.Sound.{Fit, Sound, small, at-index}
+use Rattle.order.specs.Belongs.{in-none, in-ready, in-clock, in-device, in-inbox}
 use Rattle.order.specs.Places.{live-placed, every-place}
 use Rattle.order.specs.Lines.{Shift, stays, leaves, drops-without}
 use Rattle.order.specs.Moves.{anew, then, RunsThen, stopping, aside}
@@ -29,14 +30,14 @@ fit-vacant = record {
   table = λ k. absurd (k refl);
   answer = refl;
   number = λ k. absurd (k refl);
-  apart = λ k. absurd (k refl);
+  apart = λ k _. absurd (k refl);
   words = (omega arith, omega arith);
 }
 
 module _ (m : Model) (S : Sound m) (r : ℕ) (live : thread m r .standing ≢ Empty)
     (free : (s : ℕ) → Sending ≤ thread m s .standing → thread m s .standing ≤ Awaiting → thread m s .partner ≢ thread m r .number) where
   vacant-nowhere : (q : ℕ) → belongs m vacant q ≡ false
-  vacant-nowhere = in-none m vacant (omega arith) (omega arith) (omega arith)
+  vacant-nowhere = in-none m vacant (omega arith)
 
   cleans : (x : ℕ) (ls : List (List ℕ)) → RunsThen m r vacant x → Shift m r vacant ls → Swap m r vacant (anew m (m .last) r vacant x ls)
   cleans x ls T L = changed m r vacant (m .last) x ls S (record {
@@ -62,7 +63,7 @@ module _ (m : Model) (S : Sound m) (r : ℕ) (live : thread m r .standing ≢ Em
   pub cleaned : Swap m r vacant (put r vacant (outOfLine r m))
   cleaned = elim (ℕ-discrete (thread m r .standing) Running) [
     | yes e ↦ rw (eq-eqb _ Running e) (cleans none _ (stopping m S r vacant e (omega arith))
-        (stays m S r vacant (λ q. vacant-nowhere q ∙ sym (in-none m (thread m r) (omega arith) (omega arith) (omega arith) q))))
+        (stays m S r vacant (λ q. vacant-nowhere q ∙ sym (in-none m (thread m r) (omega arith) q))))
     | no n1 ↦ rw (ne-eqb _ Running n1) (elim (ℕ-discrete (thread m r .standing) Ready) [
       | yes e ↦ rw (eq-eqb _ Ready e) (leaving ready (omega arith) n1 (in-ready m (thread m r) e))
       | no n2 ↦ rw (ne-eqb _ Ready n2) (elim (ℕ-discrete (thread m r .standing) Sending) [
@@ -72,8 +73,12 @@ module _ (m : Model) (S : Sound m) (r : ℕ) (live : thread m r .standing ≢ Em
             leaving (inbox (placeOf m (thread m r .partner))) (omega arith) n1 (in-inbox m (thread m r) S _ (v .0) e (sym (v .1))))
         | no n3 ↦ rw (ne-eqb _ Sending n3) (elim (ℕ-discrete (thread m r .standing) Waiting) [
           | yes e ↦ rw (eq-eqb _ Waiting e) (leaving clock (omega arith) n1 (in-clock m (thread m r) e))
-          | no n6 ↦ rw (ne-eqb _ Waiting n6) (cleans (m .running) _ (aside m S r vacant n1 (small m S r live) (omega arith))
-              (stays m S r vacant (λ q. vacant-nowhere q ∙ sym (in-none m (thread m r) n2 n3 n6 q))))
+          | no n6 ↦ rw (ne-eqb _ Waiting n6) (elim (ℕ-discrete (thread m r .standing) AtDevice) [
+            | yes e ↦ let i = at-index m S r e in
+                rw (eq-eqb _ AtDevice e) (leaving (device (thread m r .partner)) (omega arith) n1 (in-device m (thread m r) e (thread m r .partner) refl i))
+            | no n7 ↦ rw (ne-eqb _ AtDevice n7) (cleans (m .running) _ (aside m S r vacant n1 (small m S r live) (omega arith))
+                (stays m S r vacant (λ q. vacant-nowhere q ∙ sym (in-none m (thread m r) (n2, n3, n6, n7) q))))
+          ])
         ])
       ])
     ])
@@ -90,7 +95,7 @@ finish : (m m₁ m₂ : Model) (n p : ℕ) (l : List ℕ) → Sound m → thread
 finish m m₁ m₂ n p l S live number all H L =
     let S₁ = H .step .kept .sound in
     let S₂ = L .step .kept .sound in
-    let partner : thread m₁ p .partner ≢ n = rw (H .kept) (λ e. S .fits p .apart live (e ∙ sym number)) in
+    let partner : thread m₁ p .standing ≡ Awaiting → thread m₁ p .partner ≢ n = rw (H .kept) (λ four e. S .fits p .apart live (omega arith) (e ∙ sym number)) in
     let kept : thread m₂ p ≡ thread m p = L .past p partner ∙ H .kept in
     let named : thread m₂ p .number ≡ n = ap (λ (t : Thread). t .number) kept ∙ number in
     let named₁ : thread m₁ p .number ≡ n = ap (λ (t : Thread). t .number) (H .kept) ∙ number in
@@ -104,7 +109,7 @@ finish m m₁ m₂ n p l S live number all H L =
           let a : thread m₁ s .standing ≡ Sending = rw z at three in
           let en : thread m₂ s .partner ≡ n = e ∙ named in
           let b : thread m₁ s .partner ≡ thread m₁ p .number = (rw z at en) ∙ sym named₁ in
-          let c : count s (line m₁ (inbox p)) ≡ 1 = S₁ .stood s (inbox p) ∙ rw (a, b, eq-eqb (thread m₁ p .number) (thread m₁ p .number) refl) in
+          let c : count s (line m₁ (inbox p)) ≡ 1 = S₁ .stood s (inbox p) ∙ ap bit (at-inbox m₁ (thread m₁ s) p) ∙ rw (a, b, eq-eqb (thread m₁ p .number) (thread m₁ p .number) refl) in
           let d : _≡_ {A = ℕ} 0 1 = rw (H .empty) at c in
           omega arith
     ]))

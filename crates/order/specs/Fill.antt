@@ -1,14 +1,17 @@
 -- One place is filled or emptied: its number changes too, from and to one that nobody has for a partner.
-use Prim.Native.Nat.{ℕ, zero, suc, _≤_, _<_}
+use Prim.Native.Nat.{ℕ, _≤_, _<_}
 use mathlib.Core.Path.{_≡_, refl, sym, ap, _∙_}
 use mathlib.Core.Logic.{_≢_}
 use mathlib.Core.List.{List}
+use mathlib.Core.Bool.{false, _&&_}
 use native.Mathlib.Decide.{ℕ-discrete}
 use native.Mathlib.Omega.{arith}
 use lib.ListN.{length-set}
+use lib.Dec.{eqb}
 use borrow.Author.Tests.{ne-eqb}
 use Rattle.rules.specs.Model.{places, lastNumber, Empty, Ready, Sending, Awaiting, Thread, Model, ready, thread, livesAt}
 use Rattle.rules.specs.Consistent.{belongs}
+use Rattle.order.specs.ByLine.{by-line, at-device, at-inbox}
 use Rattle.order.specs.Sound.{Fit, Live, Sound}
 use Rattle.order.specs.Lines.{Shift}
 use Rattle.order.specs.Moves.{anew, beside, here, Waits, waits-then, Step, RunsThen}
@@ -53,21 +56,28 @@ module _ (m : Model) (p : ℕ) (t : Thread) (y x : ℕ) (ls : List (List ℕ)) (
   other s n = beside m p s t n
 
   belonging-own : (q : ℕ) → belongs k t q ≡ belongs m t q
-  belonging-own zero = refl
-  belonging-own (suc zero) = refl
-  belonging-own (suc (suc r)) = rw (ne-eqb (t .standing) Sending (M .standing .0))
+  belonging-own =
+      by-line (λ q. belongs k t q ≡ belongs m t q) refl refl
+      (λ i h. at-device k t i h ∙ sym (at-device m t i h))
+      (λ r.
+      let e : (n : ℕ) → eqb (t .standing) Sending && eqb (t .partner) n ≡ false = λ n. rw (ne-eqb (t .standing) Sending (M .standing .0)) in
+      at-inbox k t r ∙ e (thread k r .number) ∙ sym (at-inbox m t r ∙ e (thread m r .number)))
 
   belonging-other : (s : ℕ) → s ≢ p → (q : ℕ) → belongs k (thread m s) q ≡ belongs m (thread m s) q
-  belonging-other s n zero = refl
-  belonging-other s n (suc zero) = refl
-  belonging-other s n (suc (suc r)) = elim (ℕ-discrete (thread m s .standing) Sending) [
-    | no z ↦ rw (ne-eqb (thread m s .standing) Sending z)
-    | yes e ↦ elim (ℕ-discrete r p) [
-      | no z ↦ rw (other r z)
-      | yes f ↦ let a = M .alien s n (omega arith) (omega arith) in
-          rw (f, same, ne-eqb (thread m s .partner) (t .number) (a .1), ne-eqb (thread m s .partner) (thread m p .number) (a .0))
-    ]
-  ]
+  belonging-other s n =
+      by-line (λ q. belongs k (thread m s) q ≡ belongs m (thread m s) q) refl refl
+      (λ i h. at-device k (thread m s) i h ∙ sym (at-device m (thread m s) i h))
+      (λ r. at-inbox k (thread m s) r ∙ partners r ∙ sym (at-inbox m (thread m s) r))
+    where
+      partners : (r : ℕ) → eqb (thread m s .standing) Sending && eqb (thread m s .partner) (thread k r .number) ≡ eqb (thread m s .standing) Sending && eqb (thread m s .partner) (thread m r .number)
+      partners r = elim (ℕ-discrete (thread m s .standing) Sending) [
+        | no z ↦ rw (ne-eqb (thread m s .standing) Sending z)
+        | yes e ↦ elim (ℕ-discrete r p) [
+          | no z ↦ rw (other r z)
+          | yes f ↦ let a = M .alien s n (omega arith) (omega arith) in
+              rw (f, same, ne-eqb (thread m s .partner) (t .number) (a .1), ne-eqb (thread m s .partner) (thread m p .number) (a .0))
+        ]
+      ]
 
   live-after : (s : ℕ) → s ≢ p → Sending ≤ thread m s .standing → thread m s .standing ≤ Awaiting → Live k (thread m s .partner)
   live-after s n i j =

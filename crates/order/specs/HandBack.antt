@@ -37,7 +37,7 @@ back m S n r p l low live e =
           (aside m S p t (omega arith) (small m S p lived) (omega arith))
           (passes m S p t (inbox r) (omega arith) l (drops-front m p (inbox r) l e) (in-inbox m (thread m p) S r live st (sent m S r p h)) ready (omega arith) (in-ready m t refl)))
           (omega arith),
-      λ z. S .fits p .apart lived (sent m S r p h ∙ ap (λ (k : ℕ). thread m k .number) z),
+      λ z. S .fits p .apart lived (omega arith) (sent m S r p h ∙ ap (λ (k : ℕ). thread m k .number) z),
     )
 
 -- k is m after all of them
@@ -66,7 +66,7 @@ let-step n p m = cond (awaitsAt p n m) (woken p 16 n (thread m p .word) m) m
 pub record Let (m : Model) (n : ℕ) (l : List ℕ) (k : Model) : Type 0 where
   pub step : Step m k
   pub kept : (s : ℕ) → thread k s .standing ≢ Ready → thread k s ≡ thread m s
-  pub past : (s : ℕ) → thread m s .partner ≢ n → thread k s ≡ thread m s
+  pub past : (s : ℕ) → (thread m s .standing ≡ Awaiting → thread m s .partner ≢ n) → thread k s ≡ thread m s
   pub done : (s : ℕ) → thread k s .standing ≡ Awaiting → thread k s .partner ≡ n → count s l ≡ 0
 
 pub let-one : (m : Model) → Sound m → (n p : ℕ) → n ≤ lastNumber → Let m n (p ∷ []) (let-step n p m)
@@ -82,7 +82,7 @@ let-one m S n p low = go (awaitsAt p n m) refl
         record {
           step = wakes m S p lived 16 n (thread m p .word) (told-by 16 n (thread m p .word) low refl (S .fits p .words .0)) (omega arith) (omega arith);
           kept = λ s. elim (ℕ-discrete s p) [ yes z ↦ rw (z, same) (λ k. absurd (k refl)) | no k ↦ λ _. beside m p s t k ];
-          past = λ s i. beside m p s t (λ z. i (ap (λ (k : ℕ). thread m k .partner) z ∙ pn));
+          past = λ s i. beside m p s t (λ z. i (ap (λ (k : ℕ). thread m k .standing) z ∙ four) (ap (λ (k : ℕ). thread m k .partner) z ∙ pn));
           done = λ s. elim (ℕ-discrete s p) [ yes z ↦ rw (z, same) (λ k. absurd (omega arith)) | no k ↦ λ _ _. count-past s p [] k ];
         }
     go false e = record {
@@ -121,4 +121,4 @@ handed-all m S n p k live number =
     let m₁ = handedBack n p (line m (inbox p)) m in
     let H = hands (line m (inbox p)) m S n p low live refl in
     let L = lets k m₁ (H .step .kept .sound) n low in
-    (then m m₁ (letGo n k m₁) (H .step) (L .step), L .past p (rw (H .kept) (λ e. S .fits p .apart live (e ∙ sym number))) ∙ H .kept)
+    (then m m₁ (letGo n k m₁) (H .step) (L .step), L .past p (rw (H .kept) (λ four e. S .fits p .apart live (omega arith) (e ∙ sym number))) ∙ H .kept)

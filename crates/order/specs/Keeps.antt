@@ -33,7 +33,7 @@ fresh-sound = record {
   busy = λ k. absurd (k refl);
   served = λ p. rw (vacant-all p) (λ i. absurd (omega arith));
   deaf = λ r p. rw (vacant-all p) (λ e. absurd (omega arith));
-  stood = λ p q. rw (vacant-all p, all-same lineCount q no-places, in-none fresh vacant (omega arith) (omega arith) (omega arith) q);
+  stood = λ p q. rw (vacant-all p, all-same lineCount q no-places, in-none fresh vacant (omega arith) q);
 }
   where
     no-places : List ℕ

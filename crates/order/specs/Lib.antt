@@ -1,3 +1,4 @@
+pub mod ByLine
 pub mod Sound
 pub mod Belongs
 pub mod Stood
@@ -18,6 +19,7 @@ pub mod HandBack
 pub mod End
 pub mod Order
 pub mod Clock
+pub mod Devices
 pub mod Accepted
 pub mod Acts
 pub mod Keeps

@@ -9,7 +9,7 @@ use Rattle.rules.specs.Model.{Empty, Thread, Model, livesAt}
 use Rattle.rules.specs.Rules.{placeOf, emptyPlace, dispatched, act, refusal}
 use Rattle.rules.specs.Consistent.{Fits, Consistent}
 use Rattle.rules.specs.declared.Event.{Event}
-use Rattle.rules.specs.declared.Event.the-variants.{Create, Send, Receive, Reply, End, WaitClock, SliceEnd, Tick}
+use Rattle.rules.specs.declared.Event.the-variants.{Create, Send, Receive, Reply, End, WaitClock, SliceEnd, Tick, WaitDevice, Interrupt}
 use Rattle.order.specs.Sound.{sound}
 use Rattle.order.specs.Fill.{Swap}
 use Rattle.order.specs.Dispatch.{dispatch-kept}
@@ -24,6 +24,8 @@ livesNow (End t) m p = cond (eqb p (placeOf m (t .0))) false (livesAt m p)
 livesNow WaitClock m p = livesAt m p
 livesNow SliceEnd m p = livesAt m p
 livesNow Tick m p = livesAt m p
+livesNow (WaitDevice i) m p = livesAt m p
+livesNow (Interrupt s w) m p = livesAt m p
 
 swapped : (m : Model) (r : ℕ) (t : Thread) (k : Model) → Swap m r t k → (p : ℕ) → livesAt k p ≡ cond (eqb p r) (not (eqb (t .standing) Empty)) (livesAt m p)
 swapped m r t k W p = elim (ℕ-discrete p r) [
@@ -40,6 +42,8 @@ act-lives (End t) m D p = swapped m _ _ (act (End t) m) D p
 act-lives WaitClock m D p = D .kept .lives p
 act-lives SliceEnd m D p = D .kept .lives p
 act-lives Tick m D p = D .kept .lives p
+act-lives (WaitDevice i) m D p = D .kept .lives p
+act-lives (Interrupt s w) m D p = D .kept .lives p
 
 pub lives : (e : Event) (m : Model) → Consistent m → Fits e → refusal e m ≡ 0 → (p : ℕ) → livesAt (dispatched (act e m)) p ≡ livesNow e m p
 lives e m C f z p =

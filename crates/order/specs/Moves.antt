@@ -1,6 +1,6 @@
 -- One live place moves: its thread, the lines and who runs change, and nothing else. Every event is a chain of such moves,
 -- each from a Sound nucleus to a Sound nucleus.
-use Prim.Native.Nat.{ℕ, zero, suc, _≤_, _<_}
+use Prim.Native.Nat.{ℕ, _≤_, _<_}
 use mathlib.Core.Path.{_≡_, refl, sym, ap, _∙_}
 use mathlib.Core.Logic.{_≢_}
 use mathlib.Core.List.{List}
@@ -15,6 +15,7 @@ use Rattle.lists.specs.Lists.{none}
 use Rattle.rules.specs.Model.{places, Empty, Running, Ready, Sending, Awaiting, Thread, vacant, Model, ready, thread, line, livesAt}
 use Rattle.rules.specs.Rules.{hears}
 use Rattle.rules.specs.Consistent.{belongs}
+use Rattle.order.specs.ByLine.{by-line, at-device, at-inbox}
 use Rattle.order.specs.Sound.{Fit, Live, Sound, small}
 use Rattle.order.specs.Ahead.{ahead}
 use Rattle.order.specs.Lines.{Shift}
@@ -105,9 +106,10 @@ module _ (m : Model) (p : ℕ) (t : Thread) (x : ℕ) (ls : List (List ℕ)) (S 
   lived-before s h = elim (ℕ-discrete s p) [ yes e ↦ rw e (M .lived) | no n ↦ rw (other s n) at h ]
 
   belonging : (u : Thread) (q : ℕ) → belongs k u q ≡ belongs m u q
-  belonging u zero = refl
-  belonging u (suc zero) = refl
-  belonging u (suc (suc r)) = ap (λ (n : ℕ). eqb (u .standing) Sending && eqb (u .partner) n) (numbered r)
+  belonging u =
+      by-line (λ q. belongs k u q ≡ belongs m u q) refl refl
+      (λ i h. at-device k u i h ∙ sym (at-device m u i h))
+      (λ r. at-inbox k u r ∙ ap (λ (n : ℕ). eqb (u .standing) Sending && eqb (u .partner) n) (numbered r) ∙ sym (at-inbox m u r))
 
   live-after : (n : ℕ) → Live m n → Live k n
   live-after n l = (l .0, lived-on (l .0) (l .1), numbered (l .0) ∙ l .2)
@@ -127,7 +129,7 @@ module _ (m : Model) (p : ℕ) (t : Thread) (x : ℕ) (ls : List (List ℕ)) (S 
     ];
     deaf = λ r s. elim (ℕ-discrete r p) [
       | yes e ↦ rw (e, same) (elim (ℕ-discrete s p) [
-        | yes f ↦ rw (f, same) (λ a b. absurd (M .fit .apart (M .lives) b))
+        | yes f ↦ rw (f, same) (λ a b. absurd (M .fit .apart (M .lives) (omega arith) b))
         | no n ↦ rw (other s n) (λ a b. M .hearing s a (b ∙ M .named))
       ])
       | no k ↦ rw (other r k) (elim (ℕ-discrete s p) [

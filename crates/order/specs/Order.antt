@@ -15,9 +15,9 @@ use Rattle.lists.specs.Laws.{is-left}
 use Rattle.lists.specs.Counts.{some-among}
 use Rattle.lists.specs.Without.{without-append}
 use Rattle.rules.specs.Values.{nobody}
-use Rattle.rules.specs.Model.{Empty, Running, Ready, Sending, Waiting, Thread, vacant, Model, ready, clock, inbox, thread, line, allPlaces}
+use Rattle.rules.specs.Model.{Empty, Running, Ready, Sending, Waiting, AtDevice, Thread, vacant, Model, ready, clock, device, inbox, thread, line, allPlaces}
 use Rattle.rules.specs.Rules.{placeOf, put, relined, leave, stands, told, woken, awaitsAt, handedBack, letGo, outOfLine, endAt, end}
-use Rattle.order.specs.Sound.{Sound}
+use Rattle.order.specs.Sound.{Sound, at-index}
 use Rattle.order.specs.Places.{live-placed, placed}
 use Rattle.order.specs.Moves.{Step}
 use Rattle.order.specs.HandBack.{let-step, handed-all}
@@ -153,12 +153,19 @@ module _ (m : Model) (S : Sound m) (n p : ℕ) (k : List ℕ) (live : thread m p
               let u = live-placed later S′ (thread later p .partner) (S′ .served p (let z = st in omega arith) (let z = st in omega arith)) in
               let c : placeOf later (thread later p .partner) ≡ placeOf m (thread m p .partner) =
               S′ .differ _ _ (u .0) (u .1 ∙ pa ∙ sym (v .1) ∙ sym (F .kept .numbers (placeOf m (thread m p .partner)))) in
-              let ne : placeOf m (thread m p .partner) ≢ p = λ z. S .fits p .apart live (sym (v .1) ∙ ap (λ (s : ℕ). thread m s .number) z) in
+              let ne : placeOf m (thread m p .partner) ≢ p = λ z. S .fits p .apart live (omega arith) (sym (v .1) ∙ ap (λ (s : ℕ). thread m s .number) z) in
               rw (eq-eqb (thread m p .standing) Sending e, eq-eqb (thread later p .standing) Sending (st ∙ e), c)
               (other-line (inbox (placeOf m (thread m p .partner))) (omega arith) (λ z. ne (omega arith)))
           | no n3 ↦ rw (ne-eqb (thread m p .standing) Sending n3, ne-eqb (thread later p .standing) Sending (rw st n3)) (elim (ℕ-discrete (thread m p .standing) Waiting) [
             | yes e ↦ rw (eq-eqb (thread m p .standing) Waiting e, eq-eqb (thread later p .standing) Waiting (st ∙ e)) (other-line clock (omega arith) (omega arith))
-            | no n6 ↦ rw (ne-eqb (thread m p .standing) Waiting n6, ne-eqb (thread later p .standing) Waiting (rw st n6)) refl
+            | no n6 ↦ rw (ne-eqb (thread m p .standing) Waiting n6, ne-eqb (thread later p .standing) Waiting (rw st n6)) (elim (ℕ-discrete (thread m p .standing) AtDevice) [
+              | yes e ↦
+                  let pa : thread later p .partner ≡ thread m p .partner = ap (λ (t : Thread). t .partner) kept in
+                  let i = at-index m S p e in
+                  rw (eq-eqb (thread m p .standing) AtDevice e, eq-eqb (thread later p .standing) AtDevice (st ∙ e), pa)
+                  (other-line (device (thread m p .partner)) (omega arith) (omega arith))
+              | no n7 ↦ rw (ne-eqb (thread m p .standing) AtDevice n7, ne-eqb (thread later p .standing) AtDevice (rw st n7)) refl
+            ])
           ])
         ])
       ])

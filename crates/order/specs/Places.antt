@@ -36,7 +36,7 @@ none-empty m S = elim (ℕ-discrete (thread m none .standing) Empty) [
 pub none-nowhere : (m : Model) → Sound m → (q : ℕ) → count none (line m q) ≡ 0
 none-nowhere m S q =
     let e = none-empty m S in
-    S .stood none q ∙ rw (in-none m (thread m none) (omega arith) (omega arith) (omega arith) q)
+    S .stood none q ∙ rw (in-none m (thread m none) (omega arith) q)
 
 -- ---- it lives there, or it is empty
 

@@ -1,18 +1,19 @@
 -- Event 3, receive: the first match in the caller's inbox is taken, or the caller receives.
-use Prim.Native.Nat.{ℕ, zero, suc, _≤_, _<_}
-use mathlib.Core.Path.{_≡_, refl, sym, _∙_}
+use Prim.Native.Nat.{ℕ, _≤_, _<_}
+use mathlib.Core.Path.{_≡_, refl, sym, ap, _∙_}
 use mathlib.Core.Logic.{_≢_}
 use mathlib.Core.List.{List}
 use mathlib.Core.Bool.{Bool, true, false, cond, _||_}
 use native.Mathlib.Omega.{arith}
 use lib.Dec.{eqb}
 use borrow.Author.Tests.{eqb-true, eqb-false, eq-eqb, le-leb}
-use Rattle.lists.specs.Lists.{none, count, firstOf}
+use Rattle.lists.specs.Lists.{none, bit, count, firstOf}
 use Rattle.lists.specs.Search.{found-in, found-none}
 use Rattle.rules.specs.Values.{nobody}
 use Rattle.rules.specs.Model.{places, lastNumber, Empty, Running, Awaiting, Receiving, Model, inbox, thread, line}
 use Rattle.rules.specs.Rules.{mine, put, told, stands, stops, wants, awaits, takes, receive}
 use Rattle.rules.specs.Consistent.{isNumber, belongs}
+use Rattle.order.specs.ByLine.{at-inbox}
 use Rattle.order.specs.Sound.{Short, Sound, small, sending, sent}
 use Rattle.order.specs.Belongs.{in-none, in-inbox}
 use Rattle.order.specs.Places.{none-nowhere}
@@ -30,10 +31,10 @@ awaiting m S c p live h =
     let low : thread m p .partner ≤ lastNumber = rw (sent m S c p h) (S .fits c .number live) in
     let t = stands Awaiting (thread m p .partner) (thread m p .word) (thread m p) in
     stepped m p t (m .running) _ S (named m S p lived Awaiting (thread m p .partner) (thread m p .word) (m .running) _ (omega arith)
-    (le-leb (thread m p .partner) lastNumber low) (S .fits p .words .0) (c, live, sym (sent m S c p h)) (S .fits p .apart lived)
+    (le-leb (thread m p .partner) lastNumber low) (S .fits p .words .0) (c, live, sym (sent m S c p h)) (S .fits p .apart lived (omega arith))
     (λ r e. absurd (omega arith))
     (aside m S p t (omega arith) (small m S p lived) (omega arith))
-    (leaves m S p t (inbox c) (omega arith) _ (drops-without m p (inbox c) h) (in-inbox m (thread m p) S c live e (sent m S c p h)) (in-none m t (omega arith) (omega arith) (omega arith))))
+    (leaves m S p t (inbox c) (omega arith) _ (drops-without m p (inbox c) h) (in-inbox m (thread m p) S c live e (sent m S c p h)) (in-none m t (omega arith))))
     (omega arith)
 
 -- the running thread gets an answer and goes on
@@ -62,9 +63,7 @@ goes-on m S c e o n w h short =
     }) (omega arith)
   where
     same-lines : (q : ℕ) → belongs m (told 0 n w (thread m c)) q ≡ belongs m (thread m c) q
-    same-lines zero = refl
-    same-lines (suc zero) = refl
-    same-lines (suc (suc r)) = refl
+    same-lines q = refl
 
 module _ (m : Model) (S : Sound m) (busy : m .running ≢ none) where
   -- a match: the caller takes it
@@ -98,14 +97,14 @@ module _ (m : Model) (S : Sound m) (busy : m .running ≢ none) where
             table = λ _. rw source;
             answer = F .answer;
             number = λ _. F .number lived;
-            apart = λ _. apart;
+            apart = λ _ _. apart;
             words = (omega arith, F .words .1);
           };
           turn = stopping m S c t o (omega arith);
-          shift = stays m S c t (λ q. in-none m t (omega arith) (omega arith) (omega arith) q ∙ sym (nowhere m S busy q));
+          shift = stays m S c t (λ q. in-none m t (omega arith) q ∙ sym (nowhere m S busy q));
           served = λ i j. absurd (omega arith);
           hearing = λ s i j. found-none (λ p. wants n (thread m p .number)) (line m (inbox c)) (none-nowhere m S (inbox c)) e s
-              (let k : count s (line m (inbox c)) ≡ 1 = S .stood s (inbox c) ∙ rw (i, j, eq-eqb (thread m c .number) (thread m c .number) refl) in omega arith);
+              (let k : count s (line m (inbox c)) ≡ 1 = S .stood s (inbox c) ∙ ap bit (at-inbox m (thread m s) c) ∙ rw (i, j, eq-eqb (thread m c .number) (thread m c .number) refl) in omega arith);
           heard = λ r i j. absurd (omega arith);
         }) (omega arith)
 

@@ -28,7 +28,7 @@ replies-to m S busy p w short four =
     then m m₁ (replyTo p (mine m) w m) F (stepped m₁ p u p _ S₁
     (plain m₁ S₁ p lived Running 0 (mine m) w p _ (omega arith) refl (told-by 0 (mine m) w (S .fits c .number (alive m S busy)) refl short)
     (starting m₁ S₁ p u refl lived refl)
-    (stays m₁ S₁ p u (λ q. in-none m₁ u (omega arith) (omega arith) (omega arith) q ∙ sym (in-none m₁ (thread m₁ p) (omega arith) (omega arith) (omega arith) q))))
+    (stays m₁ S₁ p u (λ q. in-none m₁ u (omega arith) q ∙ sym (in-none m₁ (thread m₁ p) (omega arith) q))))
     (omega arith))
 
 pub replies : (m : Model) → Sound m → m .running ≢ none → (t w : ℕ) → Short w → thread m (placeOf m t) .standing ≡ Awaiting → Step m (reply t w m)

@@ -31,7 +31,7 @@ module _ (m : Model) (S : Sound m) (busy : m .running ≢ none) (p d w : ℕ) (s
       stepped m (m .running) t none _ S (named m S (m .running) (alive m S busy) Awaiting d w none _ (omega arith) (le-leb d lastNumber low) short (p, live, at) n
       (λ r e. absurd (omega arith))
       (stopping m S (m .running) t o (omega arith))
-      (stays m S (m .running) t (λ q. in-none m t (omega arith) (omega arith) (omega arith) q ∙ sym (nowhere m S busy q))))
+      (stays m S (m .running) t (λ q. in-none m t (omega arith) q ∙ sym (nowhere m S busy q))))
       (omega arith)
 
   -- or in the inbox

@@ -1,22 +1,23 @@
 -- `Sound`: consistency in the shape that proofs use, without its clause `settled`, which fails in the middle of an event.
 -- `sound` and `whole` say that `Consistent` is `Sound` and that clause.
 use Prim.Native.Nat.{ℕ, _^_, _≤_, _<_}
-use mathlib.Core.Path.{_≡_, refl, ap, _∙_}
+use mathlib.Core.Path.{_≡_, refl, sym, ap, _∙_}
 use mathlib.Core.Logic.{_≢_}
 use mathlib.Core.List.{List, [], _∷_}
-use mathlib.Core.Bool.{true, false}
+use mathlib.Core.Bool.{true, false, _&&_}
 use native.Mathlib.Decide.{decLt}
 use native.Mathlib.Omega.{arith}
 use lib.ListN.{length, List·getD-eq-default}
-use lib.Dec.{eqb}
-use borrow.Author.Tests.{eqb-true, eq-eqb}
+use lib.Dec.{eqb, ltb}
+use borrow.Author.Tests.{eqb-true, eq-eqb, ltb-true}
 use Rattle.lists.specs.Lists.{none, bit, count}
 use Rattle.lists.specs.Laws.{by-test, never, and-left, and-right}
 use Rattle.lists.specs.Counts.{count-self}
 use Rattle.rules.specs.Values.{nobody}
-use Rattle.rules.specs.Model.{places, lastNumber, lineCount, Empty, Running, Sending, Awaiting, Receiving, Thread, vacant, Model, ready, inbox, thread, line}
+use Rattle.rules.specs.Model.{places, devices, lastNumber, lineCount, Empty, Running, Sending, Awaiting, Receiving, AtDevice, Thread, vacant, Model, ready, inbox, thread, line}
 use Rattle.rules.specs.Rules.{wants, hears}
 use Rattle.rules.specs.Consistent.{belongs, asTable, isAnswer, Consistent}
+use Rattle.order.specs.ByLine.{at-inbox}
 
 -- a 32-bit word
 abbrev pub Short : ℕ → Type 0
@@ -28,7 +29,7 @@ pub record Fit (t : Thread) : Type 0 where
   pub table : t .standing ≢ Empty → asTable (t .standing) (t .partner) (t .word) ≡ true
   pub answer : isAnswer (t .code) (t .who) (t .answer) ≡ true
   pub number : t .standing ≢ Empty → t .number ≤ lastNumber
-  pub apart : t .standing ≢ Empty → t .partner ≢ t .number
+  pub apart : t .standing ≢ Empty → t .standing ≢ AtDevice → t .partner ≢ t .number
   pub words : Short (t .word) × Short (t .answer)
 
 -- an empty place has the number of nobody, so that whoever has a thread's number lives
@@ -69,6 +70,12 @@ module _ (m : Model) (sized : length (m .threads) ≡ places) where
 pub small : (m : Model) → Sound m → (p : ℕ) → thread m p .standing ≢ Empty → p < places
 small m S p h = inside m (S .threads) p h
 
+-- whoever waits at a device waits at one of the indexes
+pub at-index : (m : Model) → Sound m → (p : ℕ) → thread m p .standing ≡ AtDevice → thread m p .partner < devices
+at-index m S p e =
+    let t : asTable AtDevice (thread m p .partner) (thread m p .word) ≡ true = rw e at (S .fits p .table (omega arith)) in
+    ltb-true _ _ (and-left (ltb (thread m p .partner) devices) _ t)
+
 -- whoever stands in a line belongs there
 pub member : (m : Model) → Sound m → (p q : ℕ) → 1 ≤ count p (line m q) → belongs m (thread m p) q ≡ true
 member m S p q h = by-test (belongs m (thread m p) q) (λ e. e) (λ e. let z = S .stood p q ∙ ap bit e in absurd (omega arith))
@@ -78,11 +85,14 @@ front-belongs m S p q l e = member m S p q (rw (e, count-self p l) (omega arith)
 
 -- and in an inbox stand those who send to its owner
 module _ (m : Model) (S : Sound m) (r p : ℕ) (h : 1 ≤ count p (line m (inbox r))) where
+  inside-it : eqb (thread m p .standing) Sending && eqb (thread m p .partner) (thread m r .number) ≡ true
+  inside-it = sym (at-inbox m (thread m p) r) ∙ member m S p (inbox r) h
+
   pub sending : thread m p .standing ≡ Sending
-  sending = eqb-true _ _ (and-left _ (eqb (thread m p .partner) (thread m r .number)) (member m S p (inbox r) h))
+  sending = eqb-true _ _ (and-left _ (eqb (thread m p .partner) (thread m r .number)) inside-it)
 
   pub sent : thread m p .partner ≡ thread m r .number
-  sent = eqb-true _ _ (and-right (eqb (thread m p .standing) Sending) _ (member m S p (inbox r) h))
+  sent = eqb-true _ _ (and-right (eqb (thread m p .standing) Sending) _ inside-it)
 
   pub unheard : hears (thread m r) (thread m p .number) ≡ false
   unheard = S .deaf r p sending sent
@@ -98,7 +108,7 @@ module _ (m : Model) (C : Consistent m) where
   unheard-by r p e f h =
       let five : thread m r .standing ≡ Receiving = eqb-true _ _ (and-left _ (wants (thread m r .partner) (thread m p .number)) h) in
       let w : wants (thread m r .partner) (thread m p .number) ≡ true = and-right (eqb (thread m r .standing) Receiving) _ h in
-      let in-it : count p (line m (inbox r)) ≡ 1 = C .stood p (inbox r) ∙ rw (e, f, eq-eqb (thread m r .number) (thread m r .number) refl) in
+      let in-it : count p (line m (inbox r)) ≡ 1 = C .stood p (inbox r) ∙ ap bit (at-inbox m (thread m p) r) ∙ rw (e, f, eq-eqb (thread m r .number) (thread m r .number) refl) in
       by-test (eqb (thread m r .partner) nobody)
       (λ t. let z : _≡_ {A = ℕ} 0 1 = rw (C .any r five (eqb-true _ _ t)) at in-it in omega arith)
       (λ t. let z = C .from r p five (eqb-true _ _ (rw t at w)) in omega arith)

@@ -50,7 +50,7 @@ module _ (m : Model) (S : Sound m) (p : ℕ) (lived : thread m p .standing ≢ E
           table = λ _. r;
           answer = w .allowed;
           number = λ _. small-number;
-          apart = λ _ e. omega arith;
+          apart = λ _ _ e. omega arith;
           words = (omega arith, w .short);
         };
         turn = T;
@@ -74,7 +74,7 @@ module _ (m : Model) (S : Sound m) (p : ℕ) (lived : thread m p .standing ≢ E
       table = λ _. r;
       answer = S .fits p .answer;
       number = λ _. S .fits p .number lived;
-      apart = λ _. n;
+      apart = λ _ _. n;
       words = (b, S .fits p .words .1);
     };
     turn = T;
@@ -90,5 +90,5 @@ module _ (m : Model) (S : Sound m) (p : ℕ) (lived : thread m p .standing ≢ E
       let t = become m p Ready nobody 0 c n a in
       stepped m p t (m .running) _ S (plain Ready c n a (m .running) _ (omega arith) refl w
       (aside m S p t (omega arith) (small m S p lived) (omega arith))
-      (joins m S p t ready (omega arith) (in-none m (thread m p) (omega arith) (omega arith) (omega arith)) (in-ready m t refl)))
+      (joins m S p t ready (omega arith) (in-none m (thread m p) (omega arith)) (in-ready m t refl)))
       (omega arith)

@@ -1,18 +1,20 @@
 -- Who stands in a line, in the words that the lines have for it: a place stands in one line at most, and once.
-use Prim.Native.Nat.{ℕ, zero, suc, _≤_, _<_}
+use Prim.Native.Nat.{ℕ, _≤_, _<_}
 use mathlib.Core.Path.{_≡_, sym, ap, _∙_}
 use mathlib.Core.Logic.{_≢_}
 use mathlib.Core.Bool.{true, false}
 use native.Mathlib.Omega.{arith}
+use lib.Dec.{eqb}
 use borrow.Author.Tests.{eqb-true}
 use Rattle.lists.specs.Lists.{bit, count, among, Distinct}
-use Rattle.lists.specs.Laws.{by-test, never}
+use Rattle.lists.specs.Laws.{by-test, never, and-left, and-right}
 use Rattle.lists.specs.Counts.{none-among, among-some, count-distinct}
 use Rattle.lists.specs.Tables.{bit-low}
-use Rattle.rules.specs.Model.{places, Empty, Model, thread, line}
+use Rattle.rules.specs.Model.{places, Empty, AtDevice, Model, ready, clock, device, inbox, thread, line}
 use Rattle.rules.specs.Consistent.{belongs}
+use Rattle.order.specs.ByLine.{by-line, at-device}
 use Rattle.order.specs.Sound.{Sound, small, member, sending, sent}
-use Rattle.order.specs.Belongs.{in-none, in-ready, in-clock, in-inbox}
+use Rattle.order.specs.Belongs.{in-none, in-ready, in-clock, in-device, in-inbox}
 
 module _ (m : Model) (S : Sound m) where
   -- who does not belong in a line does not stand in it
@@ -21,21 +23,29 @@ module _ (m : Model) (S : Sound m) where
 
   -- whoever stands in a line is a live place
   pub stands-live : (p q : ℕ) → among p (line m q) ≡ true → thread m p .standing ≢ Empty
-  stands-live p q h z = never (member m S p q (among-some p (line m q) h)) (in-none m (thread m p) (omega arith) (omega arith) (omega arith) q)
+  stands-live p q h z = never (member m S p q (among-some p (line m q) h)) (in-none m (thread m p) (omega arith) q)
 
   pub stands-at : (p q : ℕ) → among p (line m q) ≡ true → p < places
   stands-at p q h = small m S p (stands-live p q h)
 
   -- in one line
   one-line : (p q r : ℕ) → 1 ≤ count p (line m q) → belongs m (thread m p) r ≡ true → r ≡ q
-  one-line p zero r h e = eqb-true _ _ (sym (in-ready m (thread m p) (eqb-true _ _ (member m S p zero h)) r) ∙ e)
-  one-line p (suc zero) r h e = eqb-true _ _ (sym (in-clock m (thread m p) (eqb-true _ _ (member m S p (suc zero) h)) r) ∙ e)
-  one-line p (suc (suc c)) r h e =
+  one-line p q r =
+      by-line (λ q. 1 ≤ count p (line m q) → belongs m (thread m p) r ≡ true → r ≡ q)
+      (λ h e. eqb-true _ _ (sym (in-ready m (thread m p) (eqb-true _ _ (member m S p ready h)) r) ∙ e))
+      (λ h e. eqb-true _ _ (sym (in-clock m (thread m p) (eqb-true _ _ (member m S p clock h)) r) ∙ e))
+      (λ i low h e.
+      let g = sym (at-device m (thread m p) i low) ∙ member m S p (device i) h in
+      let st = eqb-true _ _ (and-left (eqb (thread m p .standing) AtDevice) (eqb (device i) (device (thread m p .partner))) g) in
+      let f : device i ≡ device (thread m p .partner) = eqb-true _ _ (and-right (eqb (thread m p .standing) AtDevice) _ g) in
+      eqb-true _ _ (sym (in-device m (thread m p) st i (omega arith) low r) ∙ e))
+      (λ c h e.
       let st = sending m S c p h in
       let l = S .served p (omega arith) (omega arith) in
       let z : l .0 ≡ c = S .differ (l .0) c (l .1) (l .2 ∙ sent m S c p h) in
       let live : thread m c .standing ≢ Empty = rw z at (l .1) in
-      eqb-true _ _ (sym (in-inbox m (thread m p) S c live st (sent m S c p h) r) ∙ e)
+      eqb-true _ _ (sym (in-inbox m (thread m p) S c live st (sent m S c p h) r) ∙ e))
+      q
 
   pub stands-once : (p q r : ℕ) → among p (line m q) ≡ true → r ≢ q → among p (line m r) ≡ false
   stands-once p q r h n =

@@ -19,7 +19,7 @@ use Rattle.rules.specs.Rules.{placeOf, idle, stands, starts, dispatched, choice
 use Rattle.rules.specs.Consistent.{Fits, Consistent}
 use Rattle.rules.specs.declared.Number.{Number}
 use Rattle.rules.specs.declared.Event.{Event}
-use Rattle.rules.specs.declared.Event.the-variants.{Create, Send, Receive, Reply, End, WaitClock, SliceEnd, Tick}
+use Rattle.rules.specs.declared.Event.the-variants.{Create, Send, Receive, Reply, End, WaitClock, SliceEnd, Tick, WaitDevice, Interrupt}
 use Rattle.rules.specs.declared.Choice.the-variants.{Run}
 use Rattle.order.specs.Sound.{Sound, small, sound}
 use Rattle.order.specs.Places.{elsewhere, placed, lives-at, at-lives, not-in-use}
@@ -48,6 +48,8 @@ acting (End t) m = 0
 acting WaitClock m = 0
 acting SliceEnd m = bit (not (idle m))
 acting Tick m = 0
+acting (WaitDevice i) m = 0
+acting (Interrupt s w) m = 0
 
 -- how many of a history act
 abbrev pub slices : List Event → Model → ℕ
@@ -153,6 +155,8 @@ module _ (m : Model) (S : Sound m) (p n k : ℕ) (Q : Queued m p n k) where
   waits WaitClock A D = inl (D .waits p (Q .standing))
   waits SliceEnd A D = inl (D .waits p (Q .standing))
   waits Tick A D = inl (D .waits p (Q .standing))
+  waits (WaitDevice i) A D = inl (D .waits p (Q .standing))
+  waits (Interrupt s w) A D = inl (D .waits p (Q .standing))
 
 -- an event is worth nothing, or is a slice end that leaves nobody running
 worth : (e : Event) (m : Model) → (acting e m ≡ 0) ⊎ ((refusal e m ≡ 0) × (act e m .running ≡ none) × (acting e m ≡ 1))
@@ -164,6 +168,8 @@ worth (End t) m = inl refl
 worth WaitClock m = inl refl
 worth SliceEnd m = by-test (idle m) (λ e. inl (rw e)) (λ e. inr (refl, rw e, rw e))
 worth Tick m = inl refl
+worth (WaitDevice i) m = inl refl
+worth (Interrupt s w) m = inl refl
 
 module _ (e : Event) (m : Model) (C : Consistent m) (f : Fits e) (p n k : ℕ) (Q : Queued m p n k) where
   acted : refusal e m ≡ 0 → Fate (Ends n (e ∷ []) m) (dispatched (act e m)) p n k (acting e m)

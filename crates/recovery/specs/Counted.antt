@@ -1,16 +1,18 @@
--- "LOADS THAT WERE COUNTED" (document 01): every starred case, of the rules, of the image and of the log, in one table that one computed fact covers.
+-- "LOADS THAT WERE COUNTED" (document 01): every starred case, of the rules, of the image and of the log, and those of document 02's P1, in one table that one
+-- computed fact covers.
 use Prim.Native.Nat.{ℕ}
 use mathlib.Core.Path.{_≡_, refl}
 use mathlib.Core.List.{List, _++_, map}
 use Rattle.lists.specs.Lists.{tally}
 use Rattle.rules.specs.Model.{allPlaces}
-use Rattle.rules.specs.Rules.{firstFree}
+use Rattle.rules.specs.Devices.{allDevices}
+use Rattle.rules.specs.Rules.{firstFree, outside}
 use Rattle.rules.specs.Counted.{Seen, Case, found, cases}
 use Rattle.journal.specs.Format.{lengthOf, eventOf, readFrom, readAt}
-use Rattle.saving.specs.Format.{queuesIn, encodeAs, encode}
+use Rattle.saving.specs.Format.{queuesOf, rowOf, queuesIn, encodeAs, encode}
 use Rattle.loading.specs.Counted.{CountedImage, state, images}
 use Rattle.logbook.specs.Log.{parsed}
-use Rattle.logbook.specs.Counted.{Row, CountedReplay, logs, found as replayed}
+use Rattle.logbook.specs.Counted.{ReplayRow, CountedReplay, logs, found as replayed}
 
 -- a case: events that come, a history whose image is looked at, or a log that is replayed
 pub data Counted : Type 0 where
@@ -18,27 +20,27 @@ pub data Counted : Type 0 where
   image : CountedImage → Counted
   log : CountedReplay → Counted
 
--- what is seen of it
+-- what is seen of it: for a history its image in the edition of the case, and as it is saved now
 pub data Sight : Type 0 where
   seen : Seen → Sight
-  bytes : List ℕ → Sight
-  row : Row → Sight
+  bytes : List ℕ → List ℕ → Sight
+  row : ReplayRow → Sight
 
 -- what the rules give
 abbrev pub computed : Counted → Sight
 computed (events c) = seen (found c)
-computed (image c) = bytes (encode (state c))
+computed (image c) = bytes (encodeAs (rowOf (c .edition)) (state c)) (encode (state c))
 computed (log c) = row (replayed c)
 
 -- what the document says
 abbrev pub stated : Counted → Sight
 stated (events c) = seen (c .seen)
-stated (image c) = bytes (c .image)
+stated (image c) = bytes (c .image) (c .saved)
 stated (log c) = row (c .row)
 
 unfoldable pub table : List Counted
 table = map events cases ++ (map image images ++ map log logs)
 
 pub counted : map computed table ≡ map stated table
-unfolding table cases images logs encodeAs queuesIn allPlaces tally firstFree parsed lengthOf eventOf readFrom readAt
+unfolding table cases images logs encodeAs queuesOf queuesIn allPlaces allDevices outside tally firstFree parsed lengthOf eventOf readFrom readAt
 counted = refl

@@ -24,7 +24,7 @@ use Rattle.loading.specs.declared.Loaded.{Loaded}
 use Rattle.logbook.specs.Log.{limit, Parsed, logOf}
 use Rattle.logbook.specs.Promise.{Came, Replays, inconsistent, too-long, came}
 use Rattle.logbook.specs.Cut.{Rest, none, half, wholeIn, cutCode, read-log, fit-append, fit-whole, whole-front}
-use Rattle.logbook.specs.History.{Session, session-leaves, after-append, Holds, holds-none, holds-on, holds-cut, holds-replayed}
+use Rattle.logbook.specs.History.{Session, session-leaves, after-append, LogHolds, holds-none, holds-on, holds-cut, holds-replayed}
 use Rattle.logbook.specs.declared.Replayed.{Replayed}
 use Rattle.recovery.specs.Chain.{Chain, chain-fits, chain-shows}
 
@@ -66,7 +66,7 @@ pub record Back (bs whole : List Event) (k : ℕ) (l : Loaded) (r : Replayed) : 
 pub record Good (es bs fs : List Event) (image log : List ℕ) (q : ℕ) : Type 0 where
   pub is-image : encode (after bs fresh) ≡ image
   pub fits : AllFit bs
-  pub holds : Holds log q fs
+  pub holds : LogHolds log q fs
   pub unrecorded : List Event
   pub happened : es ≡ (bs ++ fs) ++ unrecorded
 

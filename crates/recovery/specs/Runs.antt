@@ -17,7 +17,7 @@ use Rattle.rules.specs.Model.{Model}
 use Rattle.rules.specs.Rules.{Outcome, outcome, full, refusal, given, next, after, choice}
 use Rattle.rules.specs.Consistent.{Fits, Consistent}
 use Rattle.rules.specs.declared.Event.{Event}
-use Rattle.rules.specs.declared.Event.the-variants.{Create, Send, Receive, Reply, End, WaitClock, SliceEnd, Tick}
+use Rattle.rules.specs.declared.Event.the-variants.{Create, Send, Receive, Reply, End, WaitClock, SliceEnd, Tick, WaitDevice, Interrupt}
 use Rattle.order.specs.Keeps.{keeps}
 use Rattle.journal.specs.Format.{readAt}
 use Rattle.journal.specs.Laws.{Bytes, read-whole}
@@ -123,6 +123,8 @@ given-refused (End t) m h = refl
 given-refused WaitClock m h = refl
 given-refused SliceEnd m h = refl
 given-refused Tick m h = refl
+given-refused (WaitDevice i) m h = refl
+given-refused (Interrupt s w) m h = refl
 
 event-still : (e : Event) (m : Model) → refusal e m ≢ 0 → Still m (outcome e m)
 event-still e m h = let s : next e m ≡ m = rw (ne-eqb (refusal e m) 0 h) refl in record { state = s; choice = ap choice s; number = given-refused e m h }

@@ -1,25 +1,27 @@
--- When a nucleus is consistent (document 01, "The cab's threads"), in the order of the document's sentence.
-use Prim.Native.Nat.{ℕ, zero, suc, _^_, _≤_, _<_}
+-- When a nucleus is consistent (document 01, "The cab's threads", and document 02, P1), in the order of the document's sentence.
+use Prim.Native.Nat.{ℕ, _-_, _^_, _≤_, _<_}
 use mathlib.Core.Path.{_≡_}
 use mathlib.Core.Logic.{_≢_}
 use mathlib.Core.List.{[]}
 use mathlib.Core.Bool.{Bool, true, false, cond, _&&_, _||_}
 use lib.ListN.{length}
-use lib.Dec.{eqb, leb}
+use lib.Dec.{eqb, leb, ltb}
 use Rattle.lists.specs.Lists.{none, bit, count}
-use Rattle.rules.specs.Values.{nobody, wordIn}
-use Rattle.rules.specs.Model.{places, lastNumber, Empty, Running, Ready, Sending, Awaiting, Receiving, Waiting, Thread, vacant, Model, ready, inbox, lineCount, thread, line}
+use Rattle.rules.specs.Values.{nobody, wordIn, setIn}
+use Rattle.rules.specs.Model.{places, devices, queueCount, lastNumber, Empty, Running, Ready, Sending, Awaiting, Receiving, Waiting, AtDevice, Thread, vacant, Model, ready, clock, device, inbox, lineCount, thread, line}
 use Rattle.rules.specs.declared.Event.{Event}
 
 -- is it a thread's number
 abbrev pub isNumber : ℕ → Bool
 isNumber n = leb n lastNumber
 
--- does a thread's standing put it into line q: ready, clock, the inbox of place r
+-- does a thread's standing put it into line q: ready, the clock's, a device's, the inbox of a place. (`by-line` of crate `order` goes through these cases.)
 abbrev pub belongs : Model → Thread → ℕ → Bool
-belongs m t zero = eqb (t .standing) Ready
-belongs m t (suc zero) = eqb (t .standing) Waiting
-belongs m t (suc (suc r)) = eqb (t .standing) Sending && eqb (t .partner) (thread m r .number)
+belongs m t q =
+    cond (eqb q ready) (eqb (t .standing) Ready)
+    (cond (eqb q clock) (eqb (t .standing) Waiting)
+    (cond (ltb q queueCount) (eqb (t .standing) AtDevice && eqb q (device (t .partner)))
+    (eqb (t .standing) Sending && eqb (t .partner) (thread m (q - queueCount) .number))))
 
 -- the table: partner and word by standing. An empty place is none of its rows.
 abbrev pub asTable : ℕ → ℕ → ℕ → Bool
@@ -30,15 +32,16 @@ asTable st partner word =
     (cond (eqb st Awaiting) (isNumber partner)
     (cond (eqb st Receiving) ((isNumber partner || eqb partner nobody) && eqb word 0)
     (cond (eqb st Waiting) (eqb partner nobody && eqb word 0)
-    false)))))
+    (cond (eqb st AtDevice) (ltb partner devices && eqb word 0)
+    false))))))
 
--- code 0 or 16 and who 0..253, or 0, 255, 0
+-- code 0 or 16 and who 0..253, or 0, 255 and any word
 abbrev pub isAnswer : ℕ → ℕ → ℕ → Bool
-isAnswer code who word = (eqb code 0 || eqb code 16) && isNumber who || eqb code 0 && (eqb who nobody && eqb word 0)
+isAnswer code who word = (eqb code 0 || eqb code 16) && isNumber who || eqb code 0 && eqb who nobody
 
--- an event's word has 32 bits, as each that the code can hold
+-- an event's word has 32 bits, and its pending set 32 and 16, as each that the code can hold
 abbrev pub Fits : Event → Type 0
-Fits e = wordIn e < 2 ^ 32
+Fits e = (wordIn e < 2 ^ 32) × (setIn e .low < 2 ^ 32) × (setIn e .high < 2 ^ 16)
 
 pub record Consistent (m : Model) : Type 0 where
   -- a thread for each place, a list for each line, and 32-bit words
@@ -53,19 +56,19 @@ pub record Consistent (m : Model) : Type 0 where
   pub one : (p : ℕ) → thread m p .standing ≡ Running → m .running ≡ p
   pub busy : m .running ≢ none → thread m (m .running) .standing ≡ Running
   pub settled : m .running ≡ none → line m ready ≡ []
-  -- ready queue, clock queue and each inbox hold exactly the threads whose standing says so, each once;
+  -- ready queue, clock queue, each device's queue and each inbox hold exactly the threads whose standing says so, each once;
   pub stood : (p q : ℕ) → count p (line m q) ≡ bit (belongs m (thread m p) q)
   -- partners and words are as above;
   pub table : (p : ℕ) → thread m p .standing ≢ Empty → asTable (thread m p .standing) (thread m p .partner) (thread m p .word) ≡ true
   -- the partner in standings 3 and 4 (from Sending to Awaiting) is live;
   pub served : (p : ℕ) → Sending ≤ thread m p .standing → thread m p .standing ≤ Awaiting
       → (r : ℕ) × (thread m r .standing ≢ Empty) × (thread m r .number ≡ thread m p .partner)
-  -- no partner is the thread itself;
-  pub apart : (p : ℕ) → thread m p .standing ≢ Empty → thread m p .partner ≢ thread m p .number
+  -- no partner is the thread itself; (a device's index is no thread, even where it is the thread's own number)
+  pub apart : (p : ℕ) → thread m p .standing ≢ Empty → thread m p .standing ≢ AtDevice → thread m p .partner ≢ thread m p .number
   -- receiving any means an empty inbox, receiving from N means N is not in it;
   pub any : (r : ℕ) → thread m r .standing ≡ Receiving → thread m r .partner ≡ nobody → line m (inbox r) ≡ []
   pub from : (r p : ℕ) → thread m r .standing ≡ Receiving → thread m r .partner ≡ thread m p .number → count p (line m (inbox r)) ≡ 0
-  -- an answer has code 0 or 16 and who 0..253, or is 0, 255, 0;
+  -- an answer has code 0 or 16 and who 0..253, or is 0, 255 and a word;
   pub answers : (p : ℕ) → isAnswer (thread m p .code) (thread m p .who) (thread m p .answer) ≡ true
   -- an empty place, and a queue slot past its queue's length, holds one fixed clean value. (The slots are the code's: `Tidy` of crate `lines`.)
   pub clean : (p : ℕ) → thread m p .standing ≡ Empty → thread m p ≡ vacant

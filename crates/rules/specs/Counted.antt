@@ -1,20 +1,31 @@
--- "Loads that were counted" (document 01): the starred cases that need no image and no log, as one table, and one fact that covers it.
+-- "Loads that were counted" (document 01): the starred cases that need no image and no log, and cases of document 02's P1, as one table, and one fact that
+-- covers it.
 use Prim.Native.Nat.{ℕ}
 use mathlib.Core.Path.{_≡_, refl}
 use mathlib.Core.List.{List, [], _∷_, _++_, map}
 use Rattle.lists.specs.Lists.{tally}
 use Rattle.rules.specs.Values.{nobody}
-use Rattle.rules.specs.Model.{lastNumber, Running, Ready, Waiting, Receiving, Thread, vacant, Model, thread, allPlaces}
-use Rattle.rules.specs.Rules.{firstFree, fresh, gave, choice, after, Outcome, outcome}
+use Rattle.rules.specs.Model.{lastNumber, Running, Ready, Waiting, Receiving, AtDevice, Thread, vacant, Model, thread, allPlaces}
+use Rattle.rules.specs.Rules.{firstFree, outside, fresh, gave, choice, after, Outcome, outcome}
+use Rattle.rules.specs.Devices.{allDevices}
+use Rattle.rules.specs.declared.Device.{Device}
+use Rattle.rules.specs.declared.Pending.{Pending}
 use Rattle.rules.specs.declared.Number.{Number}
 use Rattle.rules.specs.declared.Event.{Event}
-use Rattle.rules.specs.declared.Event.the-variants.{Create, Send, Receive, Reply, End, WaitClock, Tick}
+use Rattle.rules.specs.declared.Event.the-variants.{Create, Send, Receive, Reply, End, WaitClock, SliceEnd, Tick, WaitDevice, Interrupt}
 use Rattle.rules.specs.declared.Choice.{Choice}
 use Rattle.rules.specs.declared.Choice.the-variants.{Run, Halt, Wait, Stuck}
 
 -- a number as the code has it
 abbrev pub no : ℕ → Number
 no n = record { 0 = n }
+
+-- a device, and the pending sets of one index in the low digits and in the high ones, 32 and 33 being the lowest of these
+abbrev pub dev : ℕ → Device
+dev i = record { 0 = i }
+
+abbrev pub pending : ℕ → ℕ → Pending
+pending l h = record { low = l; high = h }
 
 -- what is seen once the events of a case have come: the last one's code and number, the choice, and the thread at a place looked at
 pub record Seen : Type 0 where
@@ -98,8 +109,24 @@ cases =
     -- 0 alone receives any: stuck, and a tick leaves it so.
     ∷ case fresh (one ++ (Receive (no nobody) ∷ [])) 0 0 nobody Stuck (thread-as 0 Receiving nobody 0 0 nobody 0)
     ∷ case fresh (one ++ (Receive (no nobody) ∷ Tick ∷ [])) 0 0 nobody Stuck (thread-as 0 Receiving nobody 0 0 nobody 0)
+    -- P1. 0 alone waits at device 33: wait. Event 10 with that bit and status 5: run 0 with answer 0, 255, 5.
+    ∷ case fresh (one ++ (WaitDevice (dev 33) ∷ [])) 0 0 nobody Wait (thread-as 0 AtDevice 33 0 0 nobody 0)
+    ∷ case fresh (one ++ (WaitDevice (dev 33) ∷ Interrupt (pending 0 2) 5 ∷ [])) 0 0 nobody (Run (no 0)) (runner 0 0 nobody 5)
+    -- A set whose first bit has no waiter changes nothing, and so does the empty set; a tick wakes no device waiter.
+    ∷ case fresh (one ++ (WaitDevice (dev 33) ∷ Interrupt (pending 0 3) 5 ∷ [])) 0 0 nobody Wait (thread-as 0 AtDevice 33 0 0 nobody 0)
+    ∷ case fresh (one ++ (WaitDevice (dev 33) ∷ Interrupt (pending 2147483648 2) 5 ∷ [])) 0 0 nobody Wait (thread-as 0 AtDevice 33 0 0 nobody 0)
+    ∷ case fresh (one ++ (WaitDevice (dev 33) ∷ Interrupt (pending 0 0) 5 ∷ [])) 0 0 nobody Wait (thread-as 0 AtDevice 33 0 0 nobody 0)
+    ∷ case fresh (one ++ (WaitDevice (dev 33) ∷ Tick ∷ [])) 0 0 nobody Wait (thread-as 0 AtDevice 33 0 0 nobody 0)
+    -- Two waiters, first come first: 1 waits at device 31 and then 0, and the first interrupt there is 1's.
+    ∷ case fresh (pair ++ (SliceEnd ∷ WaitDevice (dev 31) ∷ WaitDevice (dev 31) ∷ Interrupt (pending 2147483648 65535) 8 ∷ [])) 1 0 nobody (Run (no 1)) (runner 1 0 nobody 8)
+    ∷ case fresh (pair ++ (SliceEnd ∷ WaitDevice (dev 31) ∷ WaitDevice (dev 31) ∷ Interrupt (pending 2147483648 65535) 8 ∷ [])) 0 0 nobody (Run (no 1)) (thread-as 0 AtDevice 31 0 0 nobody 0)
+    ∷ case fresh (pair ++ (SliceEnd ∷ WaitDevice (dev 31) ∷ WaitDevice (dev 31) ∷ Interrupt (pending 2147483648 0) 8 ∷ Interrupt (pending 2147483648 0) 9 ∷ [])) 0 0 nobody (Run (no 1)) (queued 0 0 nobody 9)
+    -- Device 48 is none: 2; with nobody running: 1; a thread may wait at the device whose index is its own number, and is ended there.
+    ∷ case fresh (one ++ (WaitDevice (dev 48) ∷ [])) 0 2 nobody (Run (no 0)) (runner 0 0 nobody 0)
+    ∷ case fresh (WaitDevice (dev 48) ∷ []) 0 1 nobody Halt vacant
+    ∷ case fresh (one ++ (WaitDevice (dev 0) ∷ End (no 0) ∷ [])) 0 0 nobody Halt vacant
     ∷ []
 
 pub counted : map found cases ≡ map (λ c. c .seen) cases
-unfolding cases allPlaces firstFree tally
+unfolding cases allPlaces allDevices outside firstFree tally
 counted = refl

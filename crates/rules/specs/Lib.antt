@@ -1,5 +1,6 @@
 pub mod Values
 pub mod Model
+pub mod Devices
 pub mod Rules
 pub mod Consistent
 pub mod Counted

@@ -1,20 +1,23 @@
--- The nucleus as the rules see it (document 01, "The cab's threads"): threads by place, and a list of places for each line.
-use Prim.Native.Nat.{ℕ, suc}
+-- The nucleus as the rules see it (document 01, "The cab's threads", and document 02, P1): threads by place, and a list of places for each line.
+use Prim.Native.Nat.{ℕ, _+_}
 use mathlib.Core.List.{List, []}
 use mathlib.Core.Bool.{Bool, not}
 use lib.ListN.{getD}
 use lib.Dec.{eqb}
 use Rattle.lists.specs.Lists.{upFrom, tally}
 use Rattle.rules.specs.Values.{nobody}
--- 32 places, 0 to 31 (doc 001, MAXTHREADS). Each is empty or holds one thread. And the lines, below: two, and an inbox for each place.
-pub use Rattle.lists.specs.Sizes.{places, lineCount}
+-- 32 places, 0 to 31 (doc 001, MAXTHREADS). Each is empty or holds one thread. 48 devices. And the lines, below: the queues, and an inbox for each place.
+pub use Rattle.lists.specs.Sizes.{places, devices, queueCount, lineCount}
 
--- A thread number and a place are different kinds and may not be mixed: each has a type of its own in the code, and here a name of its own.
+-- A thread number, a place and a device's index are different kinds and may not be mixed: each has a type of its own in the code, and here a name of its own.
 abbrev pub Place : Type 0
 Place = ℕ
 
 abbrev pub Number : Type 0
 Number = ℕ
+
+abbrev pub Device : Type 0
+Device = ℕ
 
 -- a standing, an answer's code
 abbrev pub Code : Type 0
@@ -52,7 +55,11 @@ Receiving = 5
 abbrev pub Waiting : ℕ
 Waiting = 6
 
--- A thread holds: its number; its standing; a partner (a number or 255); a 32-bit word; an inbox (a line, below);
+-- waiting at a device
+abbrev pub AtDevice : ℕ
+AtDevice = 7
+
+-- A thread holds: its number; its standing; a partner (a number or 255; in standing 7 a device's index); a 32-bit word; an inbox (a line, below);
 -- and the answer to its last finished call: code, who, word (here `answer`).
 pub record Thread : Type 0 where
   pub number : Number
@@ -74,15 +81,19 @@ pub record Model : Type 0 where
   pub threads : List Thread
   pub lines : List (List Place)
 
--- The lines are the ready queue, the clock queue and the inbox of each place: every queue is one, and what is true of all is said once.
+-- The lines are the ready queue, the clock queue, the queue of each device and the inbox of each place: every queue is one, and what is true of all is said
+-- once.
 abbrev pub ready : ℕ
 ready = 0
 
 abbrev pub clock : ℕ
 clock = 1
 
+abbrev pub device : Device → ℕ
+device i = 2 + i
+
 abbrev pub inbox : Place → ℕ
-inbox p = suc (suc p)
+inbox p = queueCount + p
 
 -- what stands at a place, and in a line; past the last there is nothing
 abbrev pub thread : Model → Place → Thread

@@ -1,15 +1,17 @@
--- THE RULES (document 01, "The eight events" and "When the nucleus says no"), in the document's order and words.
+-- THE RULES (document 01, "The eight events" and "When the nucleus says no"; document 02, P1), in the documents' order and words.
 -- No proofs here: what is proved of the rules is in the crate `order`.
 use Prim.Native.Nat.{ℕ, zero, suc, _+_}
 use mathlib.Core.List.{List, [], _∷_, _++_}
 use mathlib.Core.Bool.{Bool, true, false, cond, not, _&&_, _||_}
 use lib.ListN.{set, replicate}
 use lib.Dec.{ltb, eqb}
-use Rattle.lists.specs.Lists.{none, without, firstOf}
+use Rattle.lists.specs.Lists.{none, without, firstOf, upFrom}
 use Rattle.rules.specs.Values.{nobody}
-use Rattle.rules.specs.Model.{Place, Number, Code, Word, places, lastNumber, Running, Ready, Sending, Awaiting, Receiving, Waiting, Thread, vacant, Model, ready, clock, inbox, lineCount, thread, line, allPlaces, livesAt, live}
+use Rattle.rules.specs.Model.{Place, Number, Device, Code, Word, places, devices, lastNumber, Running, Ready, Sending, Awaiting, Receiving, Waiting, AtDevice, Thread, vacant, Model, ready, clock, device, inbox, lineCount, thread, line, allPlaces, livesAt, live}
+use Rattle.rules.specs.Devices.{firstPending}
+use Rattle.rules.specs.declared.Pending.{Pending}
 use Rattle.rules.specs.declared.Event.{Event}
-use Rattle.rules.specs.declared.Event.the-variants.{Create, Send, Receive, Reply, End, WaitClock, SliceEnd, Tick}
+use Rattle.rules.specs.declared.Event.the-variants.{Create, Send, Receive, Reply, End, WaitClock, SliceEnd, Tick, WaitDevice, Interrupt}
 use Rattle.rules.specs.declared.Choice.{Choice}
 use Rattle.rules.specs.declared.Choice.the-variants.{Run, Halt, Wait, Stuck}
 
@@ -167,7 +169,8 @@ outOfLine p m =
     cond (eqb (t .standing) Running) (runs none m)
     (cond (eqb (t .standing) Ready) (leave ready p m)
     (cond (eqb (t .standing) Sending) (leave (inbox (placeOf m (t .partner))) p m)
-    (cond (eqb (t .standing) Waiting) (leave clock p m) m)))
+    (cond (eqb (t .standing) Waiting) (leave clock p m)
+    (cond (eqb (t .standing) AtDevice) (leave (device (t .partner)) p m) m))))
 
 -- Those in its inbox front to back ..
 abbrev pub handedBack : Number → Place → List Place → Model → Model
@@ -213,6 +216,26 @@ rung (p ∷ l) m = rung l (woken p 0 nobody 0 (relined clock l m))
 abbrev pub tick : Model → Model
 tick m = rung (line m clock) m
 
+-- ---- 9. Wait at a device: the running thread waits at the index given. Standing 7 carries the index as partner (even its own number) and word 0.
+
+abbrev pub waitDevice : Device → Model → Model
+waitDevice i m = join (device i) (m .running) (stops AtDevice i 0 m)
+
+-- ---- 10. Interrupt: brings a pending set and a 32-bit status. Only the first pending index is served: its longest waiter joins ready with answer
+-- 0, 255, status. An empty set, or no waiter, changes nothing.
+
+-- l are those who wait at i
+abbrev pub servedAt : Device → List Place → Word → Model → Model
+servedAt i [] w m = m
+servedAt i (p ∷ l) w m = woken p 0 nobody w (relined (device i) l m)
+
+-- i is the first pending index, or none
+abbrev pub serves : Device → Word → Model → Model
+serves i w m = cond (eqb i none) m (servedAt i (line m (device i)) w m)
+
+abbrev pub interrupt : Pending → Word → Model → Model
+interrupt s w m = serves (firstPending s) w m
+
 -- ---- After any accepted event, if nobody runs and ready is not empty, its front runs.
 
 abbrev pub starts : List Place → Model → Model
@@ -231,18 +254,28 @@ act (End t) m = end (t .0) m
 act WaitClock m = waitClock m
 act SliceEnd m = sliceEnd m
 act Tick m = tick m
+act (WaitDevice i) m = waitDevice (i .0) m
+act (Interrupt s w) m = interrupt s w m
 
--- ---- Choice (doc 002): run N; else halt (no live threads); else wait (clock queue not empty); else stuck.
+-- ---- Choice (doc 002): run N; else halt (no live threads); else wait (clock queue not empty, or that of a device); else stuck.
 
 abbrev pub isNil : List Place → Bool
 isNil [] = true
 isNil (p ∷ l) = false
 
+-- the queues of those who wait for what comes from outside: the clock's and the devices'. (No abbrev: there are 49.)
+unfoldable pub outside : List ℕ
+outside = upFrom clock (suc devices)
+
+-- somebody stands in one of them
+abbrev pub waited : Model → Bool
+waited m = not (eqb (firstOf (λ q. not (isNil (line m q))) outside) none)
+
 abbrev pub choice : Model → Choice
 choice m =
     cond (not (idle m)) (Run (record { 0 = mine m }))
     (cond (eqb (live m) 0) Halt
-    (cond (not (isNil (line m clock))) Wait Stuck))
+    (cond (waited m) Wait Stuck))
 
 -- ---- When the nucleus says no: the first test that holds gives its code. Order: 14, 11, then 1, 2, 3, 4, 5 for an event. 14 is about states, which may
 -- stand for no model that is consistent (crate `nucleus`), and 11 about logs (crate `logbook`).
@@ -251,13 +284,16 @@ infixr 5 _gives_else_
 abbrev pub _gives_else_ : Bool → Code → Code → Code
 b gives c else d = cond b c d
 
--- 1: events 2, 3, 4, 6 with nobody running (`idle`)
--- 2: number above 253 (receive: 254 only, of what a byte can be: 255 is any)
+-- 1: events 2, 3, 4, 6, 9 with nobody running (`idle`)
+-- 2: number above 253 (receive: 254 only, of what a byte can be: 255 is any); wait at a device: from 48 on
 abbrev pub noNumber : Number → Bool
 noNumber n = ltb lastNumber n
 
 abbrev pub noSource : Number → Bool
 noSource n = noNumber n && not (eqb n nobody)
+
+abbrev pub noDevice : Device → Bool
+noDevice i = not (ltb i devices)
 
 -- 3: send, receive or reply names the caller
 abbrev pub ownNumber : Model → Number → Bool
@@ -285,6 +321,8 @@ refusal (End t) m = noNumber (t .0) gives 2 else notLive m (t .0) gives 4 else 0
 refusal WaitClock m = idle m gives 1 else 0
 refusal SliceEnd m = 0
 refusal Tick m = 0
+refusal (WaitDevice i) m = idle m gives 1 else noDevice (i .0) gives 2 else 0
+refusal (Interrupt s w) m = 0
 
 -- ---- Each event takes the state and hands the next state back, with a code and the choice. A refused one leaves the state as it is, and still gives
 -- the choice of the unchanged state.
@@ -302,6 +340,8 @@ given (End t) m = nobody
 given WaitClock m = nobody
 given SliceEnd m = nobody
 given Tick m = nobody
+given (WaitDevice i) m = nobody
+given (Interrupt s w) m = nobody
 
 pub record Outcome : Type 0 where
   pub state : Model

@@ -1,7 +1,8 @@
--- The numbers and values that document 01 gives to each case of an enum; those of a choice are ours (docs/DECISIONS.md).
+-- The numbers and values that documents 01 and 02 give to each case of an enum; those of a choice are ours (docs/DECISIONS.md).
 use Prim.Native.Nat.{ℕ}
+use Rattle.rules.specs.declared.Pending.{Pending}
 use Rattle.rules.specs.declared.Event.{Event}
-use Rattle.rules.specs.declared.Event.the-variants.{Create, Send, Receive, Reply, End, WaitClock, SliceEnd, Tick}
+use Rattle.rules.specs.declared.Event.the-variants.{Create, Send, Receive, Reply, End, WaitClock, SliceEnd, Tick, WaitDevice, Interrupt}
 use Rattle.rules.specs.declared.Choice.{Choice}
 use Rattle.rules.specs.declared.Choice.the-variants.{Run, Halt, Wait, Stuck}
 
@@ -9,7 +10,7 @@ use Rattle.rules.specs.declared.Choice.the-variants.{Run, Halt, Wait, St
 abbrev pub nobody : ℕ
 nobody = 255
 
--- The eight events, by their numbers
+-- The ten events, by their numbers
 abbrev pub kindOf : Event → ℕ
 kindOf Create = 1
 kindOf (Send to w) = 2
@@ -19,8 +20,10 @@ kindOf (End t) = 5
 kindOf WaitClock = 6
 kindOf SliceEnd = 7
 kindOf Tick = 8
+kindOf (WaitDevice i) = 9
+kindOf (Interrupt s w) = 10
 
--- the number that an event names, nobody where it names none
+-- the number, or the device's index, that an event names, nobody where it names none
 abbrev pub numberIn : Event → ℕ
 numberIn Create = nobody
 numberIn (Send to w) = to .0
@@ -30,6 +33,8 @@ numberIn (End t) = t .0
 numberIn WaitClock = nobody
 numberIn SliceEnd = nobody
 numberIn Tick = nobody
+numberIn (WaitDevice i) = i .0
+numberIn (Interrupt s w) = nobody
 
 -- and the word, 0 where there is none
 abbrev pub wordIn : Event → ℕ
@@ -41,6 +46,24 @@ wordIn (End t) = 0
 wordIn WaitClock = 0
 wordIn SliceEnd = 0
 wordIn Tick = 0
+wordIn (WaitDevice i) = 0
+wordIn (Interrupt s w) = w
+
+-- and the pending set, the empty one where there is none
+abbrev pub emptySet : Pending
+emptySet = record { low = 0; high = 0 }
+
+abbrev pub setIn : Event → Pending
+setIn Create = emptySet
+setIn (Send to w) = emptySet
+setIn (Receive from) = emptySet
+setIn (Reply to w) = emptySet
+setIn (End t) = emptySet
+setIn WaitClock = emptySet
+setIn SliceEnd = emptySet
+setIn Tick = emptySet
+setIn (WaitDevice i) = emptySet
+setIn (Interrupt s w) = s
 
 -- A choice as a number, and who runs
 abbrev pub choiceKind : Choice → ℕ

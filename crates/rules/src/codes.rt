@@ -1,7 +1,7 @@
 // The codes of document 01 ("When the nucleus says no"), each by one name.
 pub const DONE: u8 = 0;
 
-// An event: nobody runs who could call, the number is none, it is the caller's own, it is not live, its thread awaits no reply of the caller's, and no
+// An event: nobody runs who could call, the number is none (or the index no device's), it is the caller's own, it is not live, its thread awaits no reply of the caller's, and no
 // place is empty.
 pub const IDLE: u8 = 1;
 
@@ -18,7 +18,7 @@ pub const FULL: u8 = 6;
 // A save: the buffer is shorter than the image.
 pub const SHORT: u8 = 7;
 
-// A load: too short, or a length field that is not the length; another edition; the image of no consistent state.
+// A load: too short, or a length field that is not the length; an unknown edition; the image of no consistent state.
 pub const WRONG_LENGTH: u8 = 8;
 
 pub const UNKNOWN_EDITION: u8 = 9;

@@ -15,7 +15,7 @@ abbrev Fair : ℕ → Type 0
 Fair n = 0 < n → (shortestHead ≤ headLength (record { edition = 0; queues = n })) × (n ≤ queueCount)
 
 rows : Every Fair queuesBy
-rows = (λ h. absurd (omega arith), (λ h. (omega arith, omega arith), tt {0}))
+rows = (λ h. absurd (omega arith), (λ h. (omega arith, omega arith), (λ h. (omega arith, omega arith), tt {0})))
 
 entry : (xs : List ℕ) → Every Fair xs → (e : ℕ) → Fair (getD xs e 0)
 entry [] k e = λ h. absurd (omega arith)

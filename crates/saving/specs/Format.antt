@@ -1,4 +1,4 @@
--- THE IMAGE (document 01, "The image and the log"), in the document's order and words. Saving, loading and looking up are all held to this one text, and so is
+-- THE IMAGE (document 01, "The image and the log"; document 02, P1), in the documents' order and words. Saving, loading and looking up are all held to this one text, and so is
 -- every edition: what an edition has of the format is its row of the table.
 use Prim.Native.Nat.{ℕ, _+_, _*_, _≤_, _<_}
 use mathlib.Core.Path.{_≡_}
@@ -11,9 +11,9 @@ use Rattle.rules.specs.Model.{Place, Thread, Model, inbox, thread, line, allPla
 use Rattle.saving.specs.declared.format.Row.{Row}
 
 -- ---- the table of editions
--- How many queues each edition has, by its number: edition 1 has ready and clock. An edition that has none is not known.
+-- How many queues each edition has, by its number: edition 1 has ready and clock, edition 2 those of the 48 devices too. An edition that has none is not known.
 abbrev pub queuesBy : List ℕ
-queuesBy = 0 ∷ 2 ∷ []
+queuesBy = 0 ∷ 2 ∷ queueCount ∷ []
 
 unfoldable pub queuesOf : ℕ → ℕ
 queuesOf e = getD queuesBy e 0
@@ -28,7 +28,7 @@ pub record Known (row : Row) : Type 0 where
 
 -- the newest edition, which a save writes, has every queue
 abbrev pub newest : Row
-newest = record { edition = 1; queues = queueCount }
+newest = record { edition = 2; queues = queueCount }
 
 -- What a row does not have is empty in a model that it can hold.
 abbrev pub Holds : Row → Model → Type 0
@@ -94,10 +94,10 @@ abbrev pub joined : (ℕ → List Place) → List ℕ → List Place
 joined f [] = []
 joined f (q ∷ qs) = f q ++ joined f qs
 
-abbrev pub lengths : Row → Model → List ℕ
-lengths row m = sizes (line m) (queuesIn row)
+abbrev pub queueLengths : Row → Model → List ℕ
+queueLengths row m = sizes (line m) (queuesIn row)
 
--- Bodies, no gaps: ready places front first; clock places; then each thread.
+-- Bodies, no gaps: ready places front first; clock places; (from edition 2 on) the device queues' places after the clock's; then each thread.
 abbrev pub queues : Row → Model → List Place
 queues row m = joined (line m) (queuesIn row)
 
@@ -109,9 +109,10 @@ firstBody row m = headLength row + entryLength * length (livePlaces m) + length 
 abbrev pub tail : Row → Model → List ℕ
 tail row m = contents m (firstBody row m) (livePlaces m) ++ (queues row m ++ bodies m (livePlaces m))
 
--- Head: edition, last number, running place or 255, live count, ready length, clock length, total length (2 bytes). (8 bytes in edition 1.)
+-- Head: edition, last number, running place or 255, live count, ready length, clock length, (from edition 2 on) 48 queue lengths after the clock length, and
+-- the total length (2 bytes) after them. It has 8 bytes in edition 1, and 56 in edition 2.
 abbrev pub head : Row → Model → List ℕ
-head row m = row .edition ∷ m .last ∷ m .running ∷ live m ∷ lengths row m ++ twoBytes (headLength row + length (tail row m))
+head row m = row .edition ∷ m .last ∷ m .running ∷ live m ∷ queueLengths row m ++ twoBytes (headLength row + length (tail row m))
 
 -- A table of contents comes first, then the bodies. (No abbrev: it would be written out wherever it stands.)
 unfoldable pub encodeAs : Row → Model → List ℕ

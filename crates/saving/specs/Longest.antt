@@ -19,11 +19,11 @@ use Rattle.rules.specs.Model.{Place, places, Model, inbox, thread, line, allPla
 use Rattle.rules.specs.Consistent.{belongs, Consistent}
 use Rattle.order.specs.Sound.{Sound, sound}
 use Rattle.order.specs.Stood.{stands-once, no-place}
-use Rattle.saving.specs.Format.{newest, headLength, entryLength, bodyLength, livePlaces, bodyOf, bodies, contents, queuesIn, joined, lengths, queues, firstBody, tail, head, encodeAs, encode}
+use Rattle.saving.specs.Format.{newest, headLength, entryLength, bodyLength, livePlaces, bodyOf, bodies, contents, queuesIn, joined, queueLengths, queues, firstBody, tail, head, encodeAs, encode}
 use Rattle.saving.specs.Queues.{inbox-at, lengths-length, joined-append}
 use Rattle.saving.specs.declared.format.Row.{Row}
 
--- The longest is 584 bytes: every place lives and waits somewhere.
+-- The longest is 632 bytes (document 01 has 584, for edition 1): every place lives and waits somewhere.
 abbrev pub longestImage : ℕ
 longestImage = headLength newest + (entryLength + bodyLength + 1) * places
 
@@ -72,7 +72,7 @@ tail-length row m =
 
 pub head-length : (row : Row) (m : Model) → length (head row m) ≡ headLength row
 head-length row m =
-    let a = length-append (lengths row m) (twoBytes (headLength row + length (tail row m))) in
+    let a = length-append (queueLengths row m) (twoBytes (headLength row + length (tail row m))) in
     let b = lengths-length (line m) row in
     omega arith
 

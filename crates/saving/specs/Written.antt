@@ -16,7 +16,7 @@ use Rattle.table.specs.Cells.{shown, standsAt, Stands}
 use Rattle.table.specs.Rows.{line-at}
 use Rattle.table.specs.Choose.{live-is}
 use Rattle.table.specs.declared.Desk.{Desk}
-use Rattle.saving.specs.Format.{totalAt, headLength, entryLength, queuesIn, sizes, joined, lengths, queues, firstBody, head, encodeAs}
+use Rattle.saving.specs.Format.{totalAt, headLength, entryLength, queuesIn, sizes, joined, queueLengths, queues, firstBody, head, encodeAs}
 use Rattle.saving.specs.Queues.{sizes-same, joined-same, lengths-length}
 use Rattle.saving.specs.Longest.{longestImage, live-length, tail-length, encode-length, longest-as}
 use Rattle.saving.specs.Parts.{held, bodiesIn, contentsIn, tailIn, tail-same}
@@ -56,7 +56,7 @@ module _ (row : Row) (h : row .queues ≤ queueCount) (b w l : List ℕ) where
   same : (q : ℕ) → q < queueCount → line (held b w l) q ≡ lineOf places l q
   same q k = line-at none none b w l q (omega arith)
 
-  lengths-are : lengths row (held b w l) ≡ lengthsIn row l
+  lengths-are : queueLengths row (held b w l) ≡ lengthsIn row l
   lengths-are = sizes-same (line (held b w l)) (lineOf places l) queueCount same row h
 
   queues-are : queues row (held b w l) ≡ waitingIn row l

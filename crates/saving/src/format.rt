@@ -10,10 +10,10 @@ pub struct Row {
 }
 
 // The newest edition, which is the last that the table has.
-pub const NEWEST: u8 = 1;
+pub const NEWEST: u8 = 2;
 
-// How many queues each edition has, by its number. An edition that has none is not known.
-const QUEUES_BY: [u8; NEWEST as usize + 1] = [0, 2];
+// How many queues each edition has, by its number: edition 1 has ready and clock, edition 2 all. An edition that has none is not known.
+const QUEUES_BY: [u8; NEWEST as usize + 1] = [0, 2, lines::QUEUES as u8];
 
 // Head: edition, last number, running place or 255, live count, a length for each queue, total length (2 bytes).
 pub const EDITION_AT: usize = 0;
@@ -73,10 +73,7 @@ pub fn row_of(edition: u8) -> Row
 pub fn newest() -> Row
     ensures { λ r. ⌜ r ≡ newestRow ⌝ }
 {
-    Row {
-        edition: NEWEST,
-        queues: lines::QUEUES as u8,
-    }
+    row_of(NEWEST)
 }
 
 // Where the total length stands.

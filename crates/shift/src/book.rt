@@ -1,8 +1,10 @@
-// What the shift had after each recorded event, kept as it went by: the position in the log, the image, and the loads that waited. What a cut log
+// What the shift had after each recorded event, kept as it went by: the position in the log, the image, and what waited at each place. What a cut log
 // brings back is compared with this, and not with a second replay.
 ghost use Prim.Native.Nat.{_^_, _<_};
+use super::pit;
 use nucleus::State;
 use rules::Place;
+use table::Thread;
 
 // The events that are recorded.
 pub const EVENTS: usize = 200;
@@ -12,7 +14,7 @@ pub const MARKS: usize = EVENTS + 1;
 
 pub const KEPT: usize = MARKS * image::LONGEST;
 
-pub const LOADS: usize = MARKS * lines::PLACES;
+pub const WAITS: usize = MARKS * lines::PLACES;
 
 // The first n bytes, as far as there are.
 pub fn front(bytes: &[u8], n: usize) -> &[u8] {
@@ -34,41 +36,68 @@ fn word(x: u32) -> u64
     x as u64
 }
 
-// The load that waits at a place, in one number: its word, and before it the driver's number, partner and standing. 0 where none waits.
-pub fn load_at(s: State, p: usize) -> u64 {
-    let t = s.thread(Place((p % lines::PLACES) as u8));
+// What waits at a place, in one number: the word, and before it the place behind it in its line, the partner, the driver's number and the standing. It is a
+// load, or a driver at a device, whose index is then the partner. 0 where nothing waits.
+pub fn wait_at(s: State, p: usize) -> u64 {
+    let at = p % lines::PLACES;
+    let t = s.thread(Place(at as u8));
     if !waits(t.standing) {
         return 0;
     }
-    let who = byte(t.number.0) * 65536 + byte(t.partner.0) * 256 + byte(t.standing);
-    who * 4294967296 + word(t.word)
+    let who = byte(t.standing) * 256 + byte(t.number.0);
+    let place = byte(t.partner.0) * 256 + byte(s.lines[at]);
+    who * 281474976710656 + place * 4294967296 + word(t.word)
+}
+
+fn waits(standing: u8) -> bool {
+    loads(standing) | (standing == rules::AT_DEVICE)
 }
 
 // Does a thread of this standing wait with a load: in an inbox, or for the reply?
-fn waits(standing: u8) -> bool {
-    if standing == rules::SENDING {
-        return true;
-    }
-    standing == rules::AWAITING
+fn loads(standing: u8) -> bool {
+    (standing == rules::SENDING) | (standing == rules::AWAITING)
 }
 
-// How many loads wait.
-pub fn waiting(s: State) -> u32 {
-    let mut n = 0;
-    let mut p = 0;
-    while p < lines::PLACES {
-        n = with(n, load_at(s, p));
+// Is what waits a driver at a device?
+pub fn at_device(wait: u64) -> bool {
+    wait / 72057594037927936 == rules::AT_DEVICE as u64
+}
+
+// How many loads wait, and how many drivers at the scale and at the keypad.
+pub struct Waiters {
+    pub loads: u32,
+    pub scale: u32,
+    pub keypad: u32,
+}
+
+pub fn waiting(s: State) -> Waiters {
+    let mut w = Waiters {
+        loads: 0,
+        scale: 0,
+        keypad: 0,
+    };
+    let mut p: u8 = 0;
+    while p < lines::PLACES as u8 {
+        w = with(w, s.thread(Place(p)));
         p += 1;
     }
-    n
+    w
 }
 
-// One more, if a load is there.
-fn with(n: u32, load: u64) -> u32 {
-    if load == 0 {
-        return n;
+// What the thread adds to them.
+fn with(mut w: Waiters, t: Thread) -> Waiters {
+    if loads(t.standing) {
+        w.loads = more(w.loads);
+        return w;
     }
-    more(n)
+    if pit::waits_at(t, pit::scale()) {
+        w.scale = more(w.scale);
+        return w;
+    }
+    if pit::waits_at(t, pit::keypad()) {
+        w.keypad = more(w.keypad);
+    }
+    w
 }
 
 // The next count. It wraps only where a shift would be longer than any log.
@@ -83,11 +112,11 @@ pub fn keep(
     i: usize,
     marks: &mut [usize],
     kept: &mut [u8],
-    loads: &mut [u64],
+    waits: &mut [u64],
 ) {
     keep_mark(marks, i, position);
     keep_image(kept, i, s);
-    keep_loads(loads, i, s);
+    keep_waits(waits, i, s);
 }
 
 fn keep_mark(marks: &mut [usize], i: usize, position: usize) {
@@ -108,20 +137,20 @@ fn keep_image(kept: &mut [u8], i: usize, s: State) {
     image::save(s, &mut kept[a..b]);
 }
 
-fn keep_loads(loads: &mut [u64], i: usize, s: State) {
+fn keep_waits(waits: &mut [u64], i: usize, s: State) {
     if i >= MARKS {
         return;
     }
     let mut p = 0;
     while p < lines::PLACES {
-        put(loads, i * lines::PLACES + p, load_at(s, p));
+        put(waits, i * lines::PLACES + p, wait_at(s, p));
         p += 1;
     }
 }
 
-fn put(loads: &mut [u64], at: usize, load: u64) {
-    if at < loads.len() {
-        loads[at] = load;
+fn put(waits: &mut [u64], at: usize, wait: u64) {
+    if at < waits.len() {
+        waits[at] = wait;
     }
 }
 
@@ -133,8 +162,8 @@ pub fn mark(marks: &[usize], i: usize) -> usize {
     logbook::LIMIT + 1
 }
 
-// The load that waited at a place after event i.
-pub fn load_then(loads: &[u64], i: usize, p: usize) -> u64 {
+// What waited at a place after event i.
+pub fn wait_then(waits: &[u64], i: usize, p: usize) -> u64 {
     if i >= MARKS {
         return 0;
     }
@@ -142,8 +171,8 @@ pub fn load_then(loads: &[u64], i: usize, p: usize) -> u64 {
         return 0;
     }
     let at = i * lines::PLACES + p;
-    if at < loads.len() {
-        return loads[at];
+    if at < waits.len() {
+        return waits[at];
     }
     0
 }

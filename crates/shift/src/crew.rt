@@ -1,9 +1,11 @@
-// Who does what: from the state and a throw of the dice, the next event, as the drivers and the radio would make it.
+// Who does what: from the state and a throw of the dice, the next event, as the drivers, the radio and the pit's devices would make it.
+use super::pit;
 use nucleus::State;
 use rules::Choice;
 use rules::Event;
 use rules::Number;
 use rules::Place;
+use table::Thread;
 
 // The radio is the first thread.
 const RADIO: u8 = 0;
@@ -13,8 +15,10 @@ const WRONG: u8 = 200;
 
 const PLACES: u8 = lines::PLACES as u8;
 
-// In so many turns there are about one slice end, one tick, and one driver who signs on or off.
+// In so many turns there are about one slice end, one tick, one driver who signs on or off, and five interrupts.
 const TURNS: u32 = 32;
+
+const INTERRUPTS: u32 = 5;
 
 // A driver who signs off is picked among so many places. At an empty one a driver signs on, so about half of them stay filled.
 const PICKED: u32 = 24;
@@ -24,12 +28,12 @@ pub fn throw(dice: u32) -> u32 {
     (dice % 65537 * 75 + 74) % 65537
 }
 
-// The next event. `load` is the number of the load that is sent next.
-pub fn next(s: State, dice: u32, load: u32) -> Event {
+// The next event.
+pub fn next(s: State, dice: u32) -> Event {
     let c = s.choice();
     let n = c.runs();
     if n.0 == rules::NOBODY {
-        return idle(c);
+        return idle(c, dice);
     }
     let d = dice % TURNS;
     if d == 0 {
@@ -41,17 +45,28 @@ pub fn next(s: State, dice: u32, load: u32) -> Event {
     if d == 2 {
         return signs(s, dice / TURNS % PICKED);
     }
-    acts(s, n, dice / TURNS, load)
+    if d < 3 + INTERRUPTS {
+        return pit::raises(dice / TURNS, throw(dice / TURNS));
+    }
+    acts(s, n, dice / TURNS)
 }
 
-// Nobody runs: the clock goes on where somebody waits for it; otherwise a driver signs on, since only one more could wake the others.
-fn idle(c: Choice) -> Event {
+// Nobody runs: the clock or a device goes on where somebody waits for what comes from outside; otherwise a driver signs on, since only one more could wake
+// the others.
+fn idle(c: Choice, dice: u32) -> Event {
     match c {
         Choice::Run(_) => Event::SliceEnd,
         Choice::Halt => Event::Create,
-        Choice::Wait => Event::Tick,
+        Choice::Wait => outside(dice),
         Choice::Stuck => Event::Create,
     }
+}
+
+fn outside(dice: u32) -> Event {
+    if dice % 4 == 0 {
+        return Event::Tick;
+    }
+    pit::raises(dice / 4, throw(dice / 4))
 }
 
 // The driver at a place signs off, waiting or not; at an empty place one signs on. The radio stays.
@@ -68,39 +83,61 @@ fn signs(s: State, p: u32) -> Event {
 }
 
 // What the running thread does.
-fn acts(s: State, n: Number, dice: u32, load: u32) -> Event {
+fn acts(s: State, n: Number, dice: u32) -> Event {
     if n.0 == RADIO {
         return radio(s, dice);
     }
-    driver(dice, load)
+    let p = s.running;
+    driver(s.thread(p), dice)
 }
 
-// A driver rests now and then, or takes the wrong number; else it sends its load to the radio.
-fn driver(dice: u32, load: u32) -> Event {
-    let d = dice % 8;
+// A driver's answer says what is next: the weight, where it comes from the scale. Any other, as the radio's, means that it is to be weighed again.
+fn driver(t: Thread, dice: u32) -> Event {
+    let a = t.answer;
+    if pit::weighed(a) {
+        return sends(a.word, dice);
+    }
+    weighs(dice)
+}
+
+// A driver who was weighed sends the weight to the radio, or now and then to the wrong number.
+fn sends(weight: u32, dice: u32) -> Event {
+    let to = if dice % 8 == 0 { WRONG } else { RADIO };
+    Event::Send {
+        to: Number(to),
+        word: weight,
+    }
+}
+
+// One who was not goes to the scale. Now and then it rests, goes to a device that is none, or types first.
+fn weighs(dice: u32) -> Event {
+    let d = dice % 16;
     if d == 0 {
         return Event::WaitClock;
     }
     if d == 1 {
-        return Event::Send {
-            to: Number(WRONG),
-            word: load,
+        return Event::WaitDevice {
+            device: pit::nowhere(),
         };
     }
-    Event::Send {
-        to: Number(RADIO),
-        word: load,
+    if d < 4 {
+        return Event::WaitDevice {
+            device: pit::keypad(),
+        };
+    }
+    Event::WaitDevice {
+        device: pit::scale(),
     }
 }
 
 // The radio rests, takes a load, or answers one. Where none is in its inbox it does not wait for one while a load that it took has no answer: that driver
 // might be the last who could send.
 fn radio(s: State, dice: u32) -> Event {
-    let d = dice % 4;
+    let d = dice % 6;
     if d == 0 {
         return Event::WaitClock;
     }
-    let from = (dice / 4 % 256) as u8;
+    let from = (dice / 6 % 256) as u8;
     let awaiting = one_that(s, rules::AWAITING, from);
     let sending = one_that(s, rules::SENDING, from);
     if awaiting.0 == rules::NOBODY {

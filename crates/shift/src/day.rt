@@ -1,17 +1,12 @@
 // The shift itself: event after event, first without a log, and then recorded; and what is counted on the way.
 use super::book;
+use super::book::Waiters;
 use super::crew;
 use nucleus::State;
 use rules::Event;
+use rules::kinds;
 
-pub const SEED: u32 = 2021;
-
-// Kinds of events (document 01, "The eight events").
-const SEND: u8 = 2;
-
-const REPLY: u8 = 4;
-
-const END: u8 = 5;
+pub const SEED: u32 = 2000;
 
 // So many drivers sign on first, with the radio.
 pub const DRIVERS: usize = 12;
@@ -19,8 +14,10 @@ pub const DRIVERS: usize = 12;
 // So many events come before the image, the signing on included.
 pub const BEFORE: usize = 100;
 
-// Loads sent, answered, and gone because their driver signed off while they waited; and events that were refused.
+// Drivers who were weighed, and who typed; loads sent, answered, and gone because their driver signed off while they waited; and events that were refused.
 pub struct Counts {
+    pub weighed: u32,
+    pub typed: u32,
     pub sent: u32,
     pub answered: u32,
     pub withdrawn: u32,
@@ -35,35 +32,42 @@ pub struct Shift {
     pub position: usize,
 }
 
-// What an event adds to the counts. `gone` is how many loads fewer wait after it.
-fn counted(mut c: Counts, kind: u8, code: u8, gone: u32) -> Counts {
-    if code != 0 {
+// What an event adds to the counts, by those who waited before it and after.
+fn counted(mut c: Counts, kind: u8, code: u8, was: Waiters, now: Waiters) -> Counts {
+    if code != rules::codes::DONE {
         c.refused = book::more(c.refused);
         return c;
     }
-    if kind == SEND {
+    if kind == kinds::SEND {
         c.sent = book::more(c.sent);
         return c;
     }
-    if kind == REPLY {
+    if kind == kinds::REPLY {
         c.answered = book::more(c.answered);
         return c;
     }
-    if kind == END {
-        c.withdrawn = std::num::wrapping_add_u32(c.withdrawn, gone);
+    if kind == kinds::END {
+        c.withdrawn = left(c.withdrawn, was.loads, now.loads);
+        return c;
+    }
+    if kind == kinds::INTERRUPT {
+        c.weighed = left(c.weighed, was.scale, now.scale);
+        c.typed = left(c.typed, was.keypad, now.keypad);
         return c;
     }
     c
 }
 
-// How many loads fewer wait.
-fn fewer(was: State, now: State) -> u32 {
-    std::num::wrapping_sub_u32(book::waiting(was), book::waiting(now))
+// The count with those who no longer wait.
+fn left(n: u32, was: u32, now: u32) -> u32 {
+    std::num::wrapping_add_u32(n, std::num::wrapping_sub_u32(was, now))
 }
 
 fn first() -> Shift {
     let s = State::fresh();
     let c = Counts {
+        weighed: 0,
+        typed: 0,
         sent: 0,
         answered: 0,
         withdrawn: 0,
@@ -109,15 +113,14 @@ pub fn morning() -> Shift {
 // What happens next.
 fn due(s: Shift) -> Event {
     let t = s.state;
-    let c = s.counts;
-    crew::next(t, s.dice, book::more(c.sent))
+    crew::next(t, s.dice)
 }
 
 // The shift after an event that left a state and a code.
 fn after(s: Shift, e: Event, now: State, code: u8, position: usize) -> Shift {
     let was = s.state;
     let c = s.counts;
-    let counts = counted(c, e.kind(), code, fewer(was, now));
+    let counts = counted(c, e.kind(), code, book::waiting(was), book::waiting(now));
     Shift {
         state: now,
         dice: crew::throw(s.dice),
@@ -150,15 +153,15 @@ pub fn rest(
     log: &mut [u8],
     marks: &mut [usize],
     kept: &mut [u8],
-    loads: &mut [u64],
+    waits: &mut [u64],
 ) -> Shift {
-    book::keep(from.state, from.position, 0, marks, kept, loads);
+    book::keep(from.state, from.position, 0, marks, kept, waits);
     let mut s = from;
     let mut i = 0;
     while i < book::EVENTS {
         s = recorded(s, log);
         i += 1;
-        book::keep(s.state, s.position, i, marks, kept, loads);
+        book::keep(s.state, s.position, i, marks, kept, waits);
     }
     s
 }

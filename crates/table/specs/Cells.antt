@@ -1,16 +1,15 @@
 -- The lent arrays, and the rules' model that they stand for.
-use mathlib.Core.Path.{_≡_}
+use mathlib.Core.Path.{_≡_, refl}
 use mathlib.Core.List.{List}
 use mathlib.Core.Bool.{Bool, not}
 use Prim.Native.Nat.{ℕ, _+_, _*_}
-use native.Mathlib.Omega.{arith}
 use lib.Dec.{eqb}
 use lib.ListN.{length, getD}
 use Rattle.lists.specs.Lists.{tab}
 use Rattle.lines.specs.Lines.{lineOf, Tidy}
 use Rattle.filled.specs.Filled.{wordOf}
 use Rattle.rules.specs.Model as Rules
-use Rattle.rules.specs.Model.{places, lineCount, Empty, Model}
+use Rattle.rules.specs.Model.{places, queueCount, lineCount, Empty, Model}
 use Rattle.rules.specs.Consistent.{Consistent}
 use Rattle.table.specs.declared.Desk.{Desk}
 use Rattle.table.specs.declared.Thread.{Thread}
@@ -26,12 +25,12 @@ byteRows = 5
 abbrev pub wordRows : ℕ
 wordRows = 2
 
--- the code's INBOX_LINES: the lines before the inboxes, ready and clock
+-- the code's INBOX_LINES: the lines before the inboxes, which are the queues
 abbrev pub inboxLines : ℕ
-inboxLines = 2
+inboxLines = queueCount
 
 pub inbox-line : (p : ℕ) → inboxLines + p ≡ Rules.inbox p
-inbox-line p = omega arith
+inbox-line p = refl
 
 -- the thread at p: its bytes and its words
 abbrev pub threadOf : List ℕ → List ℕ → ℕ → Rules.Thread

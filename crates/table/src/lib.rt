@@ -4,12 +4,14 @@ ghost use mathlib.Core.Path.{_≡_};
 ghost use Prim.Native.Nat.{ℕ, _<_};
 ghost use mathlib.Core.List.{List, []};
 ghost use lib.ListN.{getD};
-ghost use Rattle.rules.specs.Model.{places, vacant};
-ghost use Rattle.rules.specs.Rules.{hears, choice};
+ghost use Rattle.lines.specs.Lines.{Tidy};
+ghost use Rattle.rules.specs.Model.{places, lineCount, vacant};
+ghost use Rattle.rules.specs.Rules.{hears, waited, choice};
 ghost use Rattle.table.specs.Cells.{cell, threadOf, shown, asThread};
 ghost use Rattle.table.specs.Choose.{Legible};
 ghost use Rattle.table.specs.Stores.{Stood, Told, Named, Stored, awaitsOf};
 ghost use Rattle.table.specs.Clean.{Sized, emptied, Emptied};
+ghost use Rattle.table.specs.declared.Desk.{Desk};
 use lines::Links;
 use rules::Choice;
 use rules::Number;
@@ -39,10 +41,12 @@ pub type Blocks = [u8; BYTES];
 
 pub type Words = [u32; WORDS];
 
-// The lines: ready, clock, and from INBOX_LINES on the inbox of each place.
+// The lines: ready, clock, from DEVICE_LINES on that of each device, and from INBOX_LINES on the inbox of each place.
 pub const READY_LINE: u8 = 0;
 
 pub const CLOCK_LINE: u8 = 1;
+
+pub const DEVICE_LINES: u8 = 2;
 
 pub const INBOX_LINES: u8 = lines::QUEUES as u8;
 
@@ -213,6 +217,21 @@ pub fn clear(b: &mut Blocks, w: &mut Words)
     }
 }
 
+// Does somebody wait for the clock, or at a device?
+fn waits(l: &Links) -> bool
+    requires { ⌜ Tidy places lineCount (now l) ⌝ }
+    ensures { λ r. ⌜ ((d : Desk) (b w : List ℕ) → r ≡ waited (shown d b w (now (l .entry)))) ⌝ }
+{
+    let mut q = CLOCK_LINE;
+    while q < INBOX_LINES {
+        if lines::first(l, q) != lines::NONE {
+            return true;
+        }
+        q += 1;
+    }
+    false
+}
+
 // Who runs next, or why nobody does.
 pub fn choose(b: &Blocks, l: &Links, d: Desk) -> Choice
     requires { ⌜ Legible d (now b) (now l) ⌝ }
@@ -225,8 +244,8 @@ pub fn choose(b: &Blocks, l: &Links, d: Desk) -> Choice
     if filled::count(d.filled) == 0 {
         return Choice::Halt;
     }
-    if lines::first(l, CLOCK_LINE) == lines::NONE {
-        return Choice::Stuck;
+    if waits(l) {
+        return Choice::Wait;
     }
-    Choice::Wait
+    Choice::Stuck
 }

@@ -20,7 +20,7 @@ use Rattle.table.specs.declared.Desk.{Desk}
 use Rattle.verbs.specs.declared.address.Address.{Address}
 use Rattle.events.specs.declared.Outcome.{Outcome}
 use Rattle.verbs.specs.Steps.{Steps, Turns, changing, running, then, turns, twice}
-use Rattle.events.specs.Events.{Did, answered, refused, done}
+use Rattle.events.specs.Events.{Did, answered, refused, done, word-fits}
 use Rattle.verbs.specs.Caller.{mine-is}
 use Rattle.verbs.specs.Address.{CallsOn, met-place, Addressed}
 
@@ -50,14 +50,14 @@ module _ {d : Desk} {b w l : List ℕ} {n p : ℕ} (k : CallsOn d b w l n p) {me
 
 module _ {d : Desk} {b w l : List ℕ} (k : Stands d b w l) (n : Number) (x : ℕ) (short : x < 2 ^ 32) {r : Address} (a : Addressed d b w l (n .0) r) where
   pub reply-not : (r .code ≡ 0 → ⊥) → {o : Outcome} → o ≡ answered (r .code) d → Did d b w l (Reply n x) o b w l
-  reply-not z = refused k (Reply n x) short (r .code) z (a .not z _) refl
+  reply-not z = refused k (Reply n x) (word-fits short) (r .code) z (a .not z _) refl
 
   module _ (z : r .code ≡ 0) {me : ℕ} (own : me ≡ getD b (cell 0 (d .running .0)) 0) {t : Bool} (h : t ≡ awaitsOf b (r .at .0) me) where
     code : refusal (Reply n x) (shown d b w l) ≡ cond (not t) 5 0
     code = a .past z _ ∙ ap (λ (y : Bool). cond y 5 0) (awaited (a .calls z) own ∙ ap not (sym h))
 
     pub reply-5 : t ≡ false → {o : Outcome} → o ≡ answered 5 d → Did d b w l (Reply n x) o b w l
-    reply-5 y = refused k (Reply n x) short 5 (omega arith) (code ∙ rw y) refl
+    reply-5 y = refused k (Reply n x) (word-fits short) 5 (omega arith) (code ∙ rw y) refl
 
     pub reply-0 : t ≡ true → {e : Desk} {b′ w′ l′ : List ℕ} → Turns d b w l e b′ w′ l′ (reply (n .0) x) → {o : Outcome} → o ≡ answered 0 e → Did d b w l (Reply n x) o b′ w′ l′
-    reply-0 y u = done k (Reply n x) short (code ∙ rw y) refl (λ p. refl) u
+    reply-0 y u = done k (Reply n x) (word-fits short) (code ∙ rw y) refl (λ p. refl) u

@@ -20,7 +20,7 @@ use Rattle.table.specs.declared.Desk.{Desk}
 use Rattle.verbs.specs.declared.address.Address.{Address}
 use Rattle.events.specs.declared.Outcome.{Outcome}
 use Rattle.verbs.specs.Steps.{Steps, Turns, changing, running, turns}
-use Rattle.events.specs.Events.{Did, answered, refused, done}
+use Rattle.events.specs.Events.{Did, answered, refused, done, word-fits}
 use Rattle.verbs.specs.Caller.{sounds, loose, mine-is}
 use Rattle.verbs.specs.Address.{CallsOn, met-place, Addressed}
 
@@ -41,7 +41,7 @@ module _ {d : Desk} {b w l : List ℕ} {n p : ℕ} (k : CallsOn d b w l n p) {me
     met-loose y =
         let m = shown d b w l in
         let five : thread m p .standing ≡ Receiving = eqb-true _ _ (and-left _ _ (listening ∙ sym h ∙ y)) in
-        loose (d .last .0) (d .running .0) b w l (sounds (k .stands)) p (in-none m (thread m p) (omega arith) (omega arith) (omega arith))
+        loose (d .last .0) (d .running .0) b w l (sounds (k .stands)) p (in-none m (thread m p) (omega arith))
 
     pub met : t ≡ true → {e : Desk} {b′ w′ l′ : List ℕ} {x : ℕ} → e ≡ running none d → Steps b w l b′ w′ l′ (λ m. woken p 0 me x (changing (d .running .0) (stands Awaiting n x) m)) → Turns d b w l e b′ w′ l′ (send n x)
     met y {x = x} z s = turns (send n x) s z (sym (looked x ∙ rw (listening, ← h, y)))
@@ -54,7 +54,7 @@ module _ {d : Desk} {b w l : List ℕ} {n p : ℕ} (k : CallsOn d b w l n p) {me
 
 module _ {d : Desk} {b w l : List ℕ} (k : Stands d b w l) (n : Number) (x : ℕ) (short : x < 2 ^ 32) {r : Address} (a : Addressed d b w l (n .0) r) where
   pub send-not : (r .code ≡ 0 → ⊥) → {o : Outcome} → o ≡ answered (r .code) d → Did d b w l (Send n x) o b w l
-  send-not z = refused k (Send n x) short (r .code) z (a .not z 0) refl
+  send-not z = refused k (Send n x) (word-fits short) (r .code) z (a .not z 0) refl
 
   pub sent : r .code ≡ 0 → {e : Desk} {b′ w′ l′ : List ℕ} → Turns d b w l e b′ w′ l′ (send (n .0) x) → {o : Outcome} → o ≡ answered 0 e → Did d b w l (Send n x) o b′ w′ l′
-  sent z t = done k (Send n x) short (a .past z 0) refl (λ p. refl) t
+  sent z t = done k (Send n x) (word-fits short) (a .past z 0) refl (λ p. refl) t

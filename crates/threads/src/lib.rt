@@ -1,4 +1,4 @@
-// Level 3: the eight events on lent arrays, changed in place.
+// Level 3: the ten events on lent arrays, changed in place.
 ghost use Rattle.table.specs.Cells.{Stands};
 ghost use Rattle.events.specs.Events.{Did};
 ghost use Rattle.threads.specs.Ran.{Ran};
@@ -24,6 +24,15 @@ fn act(b: &mut Blocks, w: &mut Words, l: &mut Links, d: Desk, e: Event) -> Outco
         Event::WaitClock => life::clock::wait_clock(b, w, l, d),
         Event::SliceEnd => life::clock::slice_end(b, w, l, d),
         Event::Tick => life::clock::tick(b, w, l, d),
+        Event::WaitDevice { device } => life::device::wait_device(b, w, l, d, device),
+        Event::Interrupt { pending, status } => life::device::interrupt(
+            b,
+            w,
+            l,
+            d,
+            pending,
+            status,
+        ),
     }
 }
 

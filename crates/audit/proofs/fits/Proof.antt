@@ -18,7 +18,7 @@ as-table-requires c κs = search needs
 
 returns-2 : tie.Need-returns-2
 returns-2 c =
-    let at-as-table = c .before .before in
+    let at-as-table = c .before .before .before in
     let at-is-answer = at-as-table .before in
     let at-if1 = at-is-answer .before .before in
     let f = at-if1 .before .before in

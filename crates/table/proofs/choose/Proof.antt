@@ -1,5 +1,6 @@
 -- `choose` meets its contract: the ways are those of the choice.
 use borrow.Author.Needs.{needs}
+use borrow.Author.Tests.{not-true, not-false}
 use native.Mathlib.Omega.{arith}
 use Rattle.table.specs.Cells.{standsAt}
 use Rattle.table.specs.Choose.{choose-run, choose-halt, choose-stuck, choose-wait}
@@ -31,8 +32,8 @@ returns-2 c =
     let a = f .args in
     λ w. choose-halt (a .d) (a .b .now) w (a .l .now) (at-if1 .if1 .left) (c .before .count .result) (c .before .count .ensures (standsAt (a .b .now)) (f .pre .filled)) (c .if2 .taken)
 
-first-requires : tie.Need-first-requires
-first-requires c κs = (c .before .before .before .pre .lines, omega arith)
+waits-requires : tie.Need-waits-requires
+waits-requires c κs = c .before .before .before .pre .lines
 
 returns-3 : tie.Need-returns-3
 returns-3 c =
@@ -41,7 +42,7 @@ returns-3 c =
     let at-if1 = at-count .before in
     let f = at-if1 .before in
     let a = f .args in
-    λ w. choose-stuck (a .d) (a .b .now) w (a .l .now) (at-if1 .if1 .left) (at-count .count .result) (at-count .count .ensures (standsAt (a .b .now)) (f .pre .filled)) (at-if2 .if2 .left) (f .pre .lines) (c .before .first .result) (c .before .first .ensures) (c .if3 .taken)
+    λ w. choose-wait (a .d) (a .b .now) w (a .l .now) (at-if1 .if1 .left) (at-count .count .result) (at-count .count .ensures (standsAt (a .b .now)) (f .pre .filled)) (at-if2 .if2 .left) (c .before .waits .result) (c .before .waits .ensures (a .d) (a .b .now) w) (c .if3 .taken)
 
 returns-4 : tie.Need-returns-4
 returns-4 c =
@@ -50,7 +51,7 @@ returns-4 c =
     let at-if1 = at-count .before in
     let f = at-if1 .before in
     let a = f .args in
-    λ w. choose-wait (a .d) (a .b .now) w (a .l .now) (at-if1 .if1 .left) (at-count .count .result) (at-count .count .ensures (standsAt (a .b .now)) (f .pre .filled)) (at-if2 .if2 .left) (f .pre .lines) (c .before .first .result) (c .before .first .ensures) (c .if3 .left)
+    λ w. choose-stuck (a .d) (a .b .now) w (a .l .now) (at-if1 .if1 .left) (at-count .count .result) (at-count .count .ensures (standsAt (a .b .now)) (f .pre .filled)) (at-if2 .if2 .left) (c .before .waits .result) (c .before .waits .ensures (a .d) (a .b .now) w) (c .if3 .left)
 
 pub choose-spec : {M : Type 1} → statement M
 choose-spec =
@@ -62,6 +63,6 @@ choose-spec =
     returns
     count-requires
     returns-2
-    first-requires
+    waits-requires
     returns-3
     returns-4)

@@ -52,6 +52,18 @@ enum-told-4 c = search needs
 tick-requires : tie.Need-tick-requires
 tick-requires c κs = search needs
 
+enum-known-e-5 : tie.Need-enum-known-e-5
+enum-known-e-5 c = search needs
+
+wait-device-requires : tie.Need-wait-device-requires
+wait-device-requires c κs = search needs
+
+enum-known-e-6 : tie.Need-enum-known-e-6
+enum-known-e-6 c = search needs
+
+interrupt-requires : tie.Need-interrupt-requires
+interrupt-requires c κs = search needs
+
 returns : tie.Need-returns
 returns c = same-event (c .before .before .before .before .enum-told .given .1) (c .create .ensures)
 
@@ -76,6 +88,12 @@ returns-7 c = same-event (c .before .before .before .before .enum-told3 .given .
 returns-8 : tie.Need-returns-8
 returns-8 c = same-event (c .before .before .before .before .enum-told4 .given .1) (c .tick .ensures)
 
+returns-9 : tie.Need-returns-9
+returns-9 c = same-event (c .before .before .before .before .before .e5 .given .1) (c .wait-device .ensures)
+
+returns-10 : tie.Need-returns-10
+returns-10 c = same-event (c .before .before .before .before .before .e6 .given .1) (c .interrupt .ensures)
+
 pub act-spec : {M : Type 1} → statement M
 act-spec =
     tie.close
@@ -96,6 +114,10 @@ act-spec =
     slice-end-requires
     enum-told-4
     tick-requires
+    enum-known-e-5
+    wait-device-requires
+    enum-known-e-6
+    interrupt-requires
     returns
     returns-2
     returns-3
@@ -103,4 +125,6 @@ act-spec =
     returns-5
     returns-6
     returns-7
-    returns-8)
+    returns-8
+    returns-9
+    returns-10)

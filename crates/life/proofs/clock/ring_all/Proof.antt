@@ -10,7 +10,7 @@ use Rattle.life.proofs.clock.ring_all.Statement.{statement}
 use Rattle.life.proofs.clock.ring_all.Tie as tie
 
 abbrev Inv-loop : tie.InvT-loop
-Inv-loop b₀ w₀ l₀ b w l = Draining rings clock b₀ w₀ l₀ b w l
+Inv-loop b₀ w₀ l₀ b w l = Draining (rings 0) clock b₀ w₀ l₀ b w l
 
 abbrev μ-loop : tie.MeasureT-loop
 μ-loop b₀ w₀ l₀ b w l = length (lineOf places l clock)
@@ -19,7 +19,7 @@ loop-holds : tie.Need-loop-holds Inv-loop μ-loop
 loop-holds c = drain-start (c .pre)
 
 ring-requires : tie.Need-ring-requires Inv-loop μ-loop
-ring-requires c κs = c .before .before .before .loop .inv .whole
+ring-requires c κs = (c .before .before .before .loop .inv .whole, omega arith, omega arith)
 
 returns : tie.Need-returns Inv-loop μ-loop
 returns c = drain-end (c .before .before .before .before .before .loop .inv) (c .before .ring .ensures) (omega arith) (not-true _ (c .if1 .taken))

@@ -1,7 +1,7 @@
 -- `line_of` meets its contract: the standing says which line it is.
 use borrow.Author.Needs.{needs}
 use native.Mathlib.Omega.{arith}
-use Rattle.life.specs.Leave.{sent-low, line-ready, line-sending, line-waiting, line-none}
+use Rattle.life.specs.Leave.{sent-low, waits-low, line-ready, line-sending, line-waiting, line-device, line-none}
 use Rattle.life.proofs.end.line_of.Statement.{statement}
 use Rattle.life.proofs.end.line_of.Tie as tie
 
@@ -43,12 +43,35 @@ returns-3 c =
     let start = at-standing-of .before in
     line-waiting (start .args .b .now) (start .args .p .0) (at-standing-of .standing-of .ensures) (at-if1 .if1 .left) (c .before .if2 .left) (c .if3 .taken)
 
+partner-of-requires-2 : tie.Need-partner-of-requires-2
+partner-of-requires-2 c κs = search needs
+
+add-result-2 : tie.Need-add-result-2
+add-result-2 c =
+    let at-if4 = c .before .before in
+    let at-standing-of = at-if4 .before .before .before .before in
+    let start = at-standing-of .before in
+    let h = waits-low (start .args .b .now) (start .args .p .0) (start .pre .1) (at-standing-of .standing-of .ensures) (at-if4 .if4 .taken) (c .before .partner-of2 .ensures) in
+    omega arith
+
 returns-4 : tie.Need-returns-4
 returns-4 c =
-    let at-if1 = c .before .before in
+    let at-if4 = c .before .before in
+    let at-if3 = at-if4 .before in
+    let at-if2 = at-if3 .before in
+    let at-if1 = at-if2 .before in
     let at-standing-of = at-if1 .before in
     let start = at-standing-of .before in
-    line-none (start .args .b .now) (start .args .p .0) (at-standing-of .standing-of .ensures) (at-if1 .if1 .left) (c .before .if2 .left) (c .if3 .left)
+    line-device (start .args .b .now) (start .args .p .0) (at-standing-of .standing-of .ensures) (at-if1 .if1 .left) (at-if2 .if2 .left) (at-if3 .if3 .left) (at-if4 .if4 .taken)
+    (c .before .partner-of2 .ensures)
+
+returns-5 : tie.Need-returns-5
+returns-5 c =
+    let at-if2 = c .before .before in
+    let at-if1 = at-if2 .before in
+    let at-standing-of = at-if1 .before in
+    let start = at-standing-of .before in
+    line-none (start .args .b .now) (start .args .p .0) (at-standing-of .standing-of .ensures) (at-if1 .if1 .left) (at-if2 .if2 .left) (c .before .if3 .left) (c .if4 .left)
 
 pub line-of-spec : {M : Type 1} → statement M
 line-of-spec =
@@ -61,4 +84,7 @@ line-of-spec =
     add-result
     returns-2
     returns-3
-    returns-4)
+    partner-of-requires-2
+    add-result-2
+    returns-4
+    returns-5)

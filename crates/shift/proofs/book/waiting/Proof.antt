@@ -6,16 +6,19 @@ use Rattle.shift.proofs.book.waiting.Statement.{statement}
 use Rattle.shift.proofs.book.waiting.Tie as tie
 
 abbrev Inv-loop : tie.InvT-loop
-Inv-loop s n₀ p₀ n p = p ≤ places
+Inv-loop s w₀ p₀ w p = p ≤ places
 
 abbrev μ-loop : tie.MeasureT-loop
-μ-loop s n₀ p₀ n p = places - p
+μ-loop s w₀ p₀ w p = places - p
 
 loop-holds : tie.Need-loop-holds Inv-loop μ-loop
 loop-holds c = search needs
 
-load-at-requires : tie.Need-load-at-requires Inv-loop μ-loop
-load-at-requires c κs = search needs
+cast-loop : tie.Need-cast-loop Inv-loop μ-loop
+cast-loop c = search needs
+
+thread-requires : tie.Need-thread-requires Inv-loop μ-loop
+thread-requires c κs = search needs
 
 with-requires : tie.Need-with-requires Inv-loop μ-loop
 with-requires c κs = search needs
@@ -39,7 +42,8 @@ waiting-spec =
     Inv-loop
     μ-loop
     loop-holds
-    load-at-requires
+    cast-loop
+    thread-requires
     with-requires
     add-p
     loop-less

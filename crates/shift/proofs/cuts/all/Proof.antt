@@ -6,10 +6,10 @@ use Rattle.shift.proofs.cuts.all.Statement.{statement}
 use Rattle.shift.proofs.cuts.all.Tie as tie
 
 abbrev Inv-loop : tie.InvT-loop
-Inv-loop image log marks kept loads f₀ i₀ k₀ f i k = k ≤ length log
+Inv-loop image log marks kept waits f₀ i₀ k₀ f i k = k ≤ length log
 
 abbrev μ-loop : tie.MeasureT-loop
-μ-loop image log marks kept loads f₀ i₀ k₀ f i k = length log - k
+μ-loop image log marks kept waits f₀ i₀ k₀ f i k = length log - k
 
 nothing-requires : tie.Need-nothing-requires Inv-loop μ-loop
 nothing-requires c κs = search needs
@@ -27,7 +27,7 @@ cut-requires : tie.Need-cut-requires Inv-loop μ-loop
 cut-requires c κs = search needs
 
 add-k : tie.Need-add-k Inv-loop μ-loop
-add-k c = search needs
+add-k c = search (needs, c .before .before .before .before .before .before .before .before .before .before .before .good)
 
 loop-less : tie.Need-loop-less Inv-loop μ-loop
 loop-less c = search needs

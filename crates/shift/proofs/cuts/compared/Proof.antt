@@ -6,22 +6,22 @@ use Rattle.shift.proofs.cuts.compared.Statement.{statement}
 use Rattle.shift.proofs.cuts.compared.Tie as tie
 
 abbrev Inv-loop : tie.InvT-loop
-Inv-loop s loads i f₀ p₀ f p = p ≤ places
+Inv-loop s waits i f₀ p₀ f p = p ≤ places
 
 abbrev μ-loop : tie.MeasureT-loop
-μ-loop s loads i f₀ p₀ f p = places - p
+μ-loop s waits i f₀ p₀ f p = places - p
 
 loop-holds : tie.Need-loop-holds Inv-loop μ-loop
 loop-holds c = search needs
 
-load-then-requires : tie.Need-load-then-requires Inv-loop μ-loop
-load-then-requires c κs = search needs
+wait-then-requires : tie.Need-wait-then-requires Inv-loop μ-loop
+wait-then-requires c κs = search needs
 
-load-at-requires : tie.Need-load-at-requires Inv-loop μ-loop
-load-at-requires c κs = search needs
+wait-at-requires : tie.Need-wait-at-requires Inv-loop μ-loop
+wait-at-requires c κs = search needs
 
-load-requires : tie.Need-load-requires Inv-loop μ-loop
-load-requires c κs = search needs
+placed-requires : tie.Need-placed-requires Inv-loop μ-loop
+placed-requires c κs = search needs
 
 add-p : tie.Need-add-p Inv-loop μ-loop
 add-p c = search needs
@@ -42,9 +42,9 @@ compared-spec =
     Inv-loop
     μ-loop
     loop-holds
-    load-then-requires
-    load-at-requires
-    load-requires
+    wait-then-requires
+    wait-at-requires
+    placed-requires
     add-p
     loop-less
     loop-again

@@ -7,10 +7,10 @@ use Rattle.shift.proofs.day.rest.Statement.{statement}
 use Rattle.shift.proofs.day.rest.Tie as tie
 
 abbrev Inv-loop : tie.InvT-loop
-Inv-loop log₀ marks₀ kept₀ loads₀ s₀ i₀ log marks kept loads s i = (i ≤ 200) × (length log ≡ length log₀) × (length marks ≡ length marks₀) × (length kept ≡ length kept₀) × (length loads ≡ length loads₀)
+Inv-loop log₀ marks₀ kept₀ waits₀ s₀ i₀ log marks kept waits s i = (i ≤ 200) × (length log ≡ length log₀) × (length marks ≡ length marks₀) × (length kept ≡ length kept₀) × (length waits ≡ length waits₀)
 
 abbrev μ-loop : tie.MeasureT-loop
-μ-loop log₀ marks₀ kept₀ loads₀ s₀ i₀ log marks kept loads s i = 200 - i
+μ-loop log₀ marks₀ kept₀ waits₀ s₀ i₀ log marks kept waits s i = 200 - i
 
 keep-requires : tie.Need-keep-requires Inv-loop μ-loop
 keep-requires c κs = search needs

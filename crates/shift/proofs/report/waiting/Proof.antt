@@ -17,8 +17,11 @@ loop-holds c = search needs
 cast-loop : tie.Need-cast-loop Inv-loop μ-loop
 cast-loop c = search needs
 
-load-requires : tie.Need-load-requires Inv-loop μ-loop
-load-requires c κs = search needs
+thread-requires : tie.Need-thread-requires Inv-loop μ-loop
+thread-requires c κs = search needs
+
+wait-requires : tie.Need-wait-requires Inv-loop μ-loop
+wait-requires c κs = search needs
 
 add-p : tie.Need-add-p Inv-loop μ-loop
 add-p c = search needs
@@ -40,7 +43,8 @@ waiting-spec =
     μ-loop
     loop-holds
     cast-loop
-    load-requires
+    thread-requires
+    wait-requires
     add-p
     loop-less
     loop-again
