@@ -1,8 +1,9 @@
-/* Tries the library of include/rumqatiss.h on tables of vectors and at its limits: every result, and every byte of every buffer.
+/* Tries the library of include/rumqatiss.h on tables of vectors, on traces and at its limits: every result, and every byte of every buffer.
 
-       test BOARD.tsv LOAD.tsv REPLAY.tsv
+       test BOARD.tsv LOAD.tsv REPLAY.tsv TRACES LOG..
 
    A table has a head line that names its columns, and a row a vector, its columns parted by tabs; bytes are in hex, "-" for none.
+   TRACES is what crates/trace prints of the logs, one after another: a line for each record, and the image at the end.
    Each buffer and each result stands between marked bytes, which must be as they were after the call, as must what is only read. */
 #include <stdio.h>
 #include <stdlib.h>
@@ -157,6 +158,10 @@ static void call_replay(void) {
                                  call.choice, call.next, call.records, call.bytes, call.length);
 }
 
+static void call_update(void) {
+    call.code = rumqatiss_update(call.image, call.image_len, call.out, call.room, call.choice, call.next, call.length);
+}
+
 static void call_look_up(void) { call.code = rumqatiss_look_up(call.image, call.image_len, call.who, call.offset, call.length); }
 
 /* ---- the calls, each with what it must come to */
@@ -215,6 +220,14 @@ static void try_look_up(struct part im, uint8_t who, uint8_t code, uint16_t star
     snprintf(name, sizeof name, "rumqatiss_look_up of number %d", who);
     on_painted_stack(call_look_up);
     settle(name, call.code, code);
+}
+
+static void try_update(struct part im, size_t room, uint8_t code, struct chosen c, struct part after) {
+    lend_image(im);
+    lend_room(room, MARK, after);
+    lend_choice(c);
+    on_painted_stack(call_update);
+    settle("rumqatiss_update", call.code, code);
 }
 
 static void try_fresh(size_t room, uint8_t code, struct part after) {
@@ -290,10 +303,23 @@ static void board_row(char **f) {
     try_board(im, rec, after.len - 1, fill, RUMQATISS_SHORT_BUFFER, choice_of(im), RUMQATISS_NOBODY, none);
 }
 
-/* image > code resaved choice lookups updatecode updated; a look-up is number:offset:length, 0:0 where there is none */
+/* An update that is done: in a buffer that is longer, in one that just fits, and in one that is a byte too short. What comes of it is
+   an image that load takes, and a second update has nothing to do. */
+static void try_updated(struct part im, struct part after) {
+    struct chosen c = choice_of(after);
+    try_update(im, ROOM, RUMQATISS_DONE, c, after);
+    try_update(im, after.len, RUMQATISS_DONE, c, after);
+    try_update(im, after.len - 1, RUMQATISS_SHORT_BUFFER, c, none);
+    try_update(after, after.len, RUMQATISS_DONE, c, after);
+    try_replay(after, none, after.len, RUMQATISS_DONE, c, 0, 0, after);
+}
+
+/* image > code resaved choice lookups updatecode updated; a look-up is number:offset:length, 0:0 where there is none. Where load or
+   update refuses the image, the table has the fresh image for what is saved then. */
 static void load_row(char **f) {
     struct part im = bytes_in(f[0]);
     uint8_t code = (uint8_t)number_in(f[1]), absent = code == RUMQATISS_DONE ? RUMQATISS_NOT_LIVE : code;
+    uint8_t update = (uint8_t)number_in(f[5]);
     try_replay(im, none, ROOM, code, choice_in(f[3]), 0, 0, code == RUMQATISS_DONE ? bytes_in(f[2]) : none);
     unsigned who, start, len;
     int seen = 0;
@@ -302,6 +328,8 @@ static void load_row(char **f) {
         p += seen;
     }
     if (seen == 0) broken("look-ups were expected");
+    if (update == RUMQATISS_DONE) try_updated(im, bytes_in(f[6]));
+    else try_update(im, ROOM, update, halt, none);
     if (code != RUMQATISS_DONE) return;
     /* every thread that the image's contents name */
     for (size_t i = contents_of(im); i < contents_end(im); i += 4) {
@@ -320,20 +348,31 @@ static void replay_row(char **f) {
     try_replay(im, log, after.len - 1, RUMQATISS_SHORT_BUFFER, choice_of(im), 0, 0, none);
 }
 
-static void try_table(const char *name, const char *path, int columns, void row(char **)) {
-    static char text[8192];
-    char *f[16];
-    int vectors = 0;
+static FILE *open_table(const char *path) {
     FILE *in = fopen(path, "r");
     table = path;
     line = 0;
-    if (in == NULL) broken("the table cannot be opened");
-    while (fgets(text, sizeof text, in) != NULL) {
-        line++;
+    if (in == NULL) broken("the file cannot be opened");
+    return in;
+}
+
+/* The next line without its end, or NULL where there is none. It stands until the next is read. */
+static char *next_line(FILE *in) {
+    static char text[8192];
+    line++;
+    if (fgets(text, sizeof text, in) == NULL) return NULL;
+    char *end = strchr(text, '\n');
+    if (end == NULL) broken("the line is too long, or has no end");
+    *end = 0;
+    return text;
+}
+
+static void try_table(const char *name, const char *path, int columns, void row(char **)) {
+    char *f[16], *text;
+    int vectors = 0;
+    FILE *in = open_table(path);
+    while ((text = next_line(in)) != NULL) {
         if (text[0] == '#') continue;
-        char *end = strchr(text, '\n');
-        if (end == NULL) broken("the line is too long, or has no end");
-        *end = 0;
         int n = 0;
         for (char *p = text; p != NULL && n < columns; n++) {
             f[n] = p;
@@ -349,11 +388,93 @@ static void try_table(const char *name, const char *path, int columns, void row(
     printf("%s: %d vectors agree\n", name, vectors);
 }
 
-/* ---- what no table has */
+/* ---- the traces */
 
 static const uint8_t fresh_bytes[56] = { 2, 253, 255, [54] = 56 };
+static const struct part fresh = { fresh_bytes, sizeof fresh_bytes };
+static const uint8_t lengths[10] = RUMQATISS_RECORD_LENGTHS;
+
+static struct part log_in(const char *path) {
+    static uint8_t b[RUMQATISS_LONGEST_LOG + 1];
+    FILE *in = fopen(path, "r");
+    if (in == NULL) broken("its log cannot be opened");
+    struct part log = { b, fread(b, 1, sizeof b, in) };
+    if (ferror(in) || log.len == 0 || log.len == sizeof b) broken("its log cannot be read, is empty or is too long");
+    fclose(in);
+    return log;
+}
+
+/* The record that a log begins with. */
+static struct part record_in(struct part log) {
+    struct part rec = { log.at, 0 };
+    if (log.at[0] >= 1 && log.at[0] <= sizeof lengths) rec.len = lengths[log.at[0] - 1];
+    if (rec.len == 0 || rec.len > log.len) broken("a whole record was expected in the log");
+    return rec;
+}
+
+/* The image that a record leaves, into b. The traces have the last image only. Those before it are what rumqatiss_replay makes of the record,
+   and rumqatiss_board must come to the same. */
+static struct part image_after(struct part im, struct part rec, uint8_t b[RUMQATISS_LONGEST_IMAGE]) {
+    uint8_t kind, runs;
+    uint32_t count, read;
+    uint16_t len;
+    uint8_t code = rumqatiss_replay(im.at, im.len, rec.at, rec.len, b, RUMQATISS_LONGEST_IMAGE, &kind, &runs, &count, &read, &len);
+    if (code != RUMQATISS_DONE) broken("the record cannot be replayed");
+    return (struct part){ b, len };
+}
+
+/* The next line of the text, where one must be. */
+static char *expect_line(FILE *traces) {
+    char *text = next_line(traces);
+    if (text == NULL) broken("another line was expected");
+    return text;
+}
+
+/* A record, and the line CODE CHOICE NUMBER of what it comes to. Returns the choice. */
+static struct chosen try_answer(struct part im, struct part rec, struct part after, char *text) {
+    char *said = strchr(text, ' '), *given = strrchr(text, ' ');
+    if (said == given) broken("a code, a choice and a number were expected");
+    *said = *given = 0;
+    uint8_t code = (uint8_t)number_in(text);
+    struct chosen c = choice_in(said + 1);
+    try_board(im, rec, ROOM, MARK, code, c, (uint8_t)number_in(given + 1), code == RUMQATISS_DONE ? after : none);
+    return c;
+}
+
+/* The log's records happen one by one, from the fresh image. What they come to stands in the next lines of the text, and behind them the
+   image at the end, which the whole log must come to as well. How many records that is. */
+static uint32_t try_trace(FILE *traces, const char *path) {
+    static uint8_t b[2][RUMQATISS_LONGEST_IMAGE];
+    struct part log = log_in(path), rest = log, im = fresh;
+    struct chosen c = halt;
+    uint32_t count = 0;
+    for (; rest.len != 0; count++) {
+        struct part rec = record_in(rest), after = image_after(im, rec, b[count % 2]);
+        c = try_answer(im, rec, after, expect_line(traces));
+        im = after;
+        rest = (struct part){ rest.at + rec.len, rest.len - rec.len };
+    }
+    char *text = expect_line(traces);
+    if (memcmp(text, "image ", 6) != 0) broken("the image at the end was expected");
+    struct part last = bytes_in(text + 6);
+    if (last.len != im.len || memcmp(last.at, im.at, im.len) != 0) broken("the records one by one come to another image");
+    try_replay(fresh, log, ROOM, RUMQATISS_DONE, c, count, (uint32_t)log.len, last);
+    return count;
+}
+
+static void try_traces(const char *path, char **logs, int n) {
+    FILE *traces = open_table(path);
+    uint32_t count = 0;
+    for (int i = 0; i < n; i++) count += try_trace(traces, logs[i]);
+    if (next_line(traces) != NULL) broken("nothing more was expected");
+    fclose(traces);
+    printf("traces: %u records of %d logs agree\n", count, n);
+}
+
+/* ---- what no table has */
+
 static const uint8_t first_bytes[73] = { 2, 0, 0, 1, [54] = 73, [58] = 60, [60] = 1, 255, [67] = 255 };
-static const struct part fresh = { fresh_bytes, sizeof fresh_bytes }, first = { first_bytes, sizeof first_bytes };
+static const struct part first = { first_bytes, sizeof first_bytes };
 static const struct chosen run_0 = { RUMQATISS_RUN, 0 }, wait = { RUMQATISS_WAIT, RUMQATISS_NOBODY };
 
 static void try_rooms(void) {
@@ -368,7 +489,6 @@ static void try_rooms(void) {
 
 /* A record of every kind in every length: only the length of RUMQATISS_RECORD_LENGTHS is one record. */
 static void try_lengths(void) {
-    static const uint8_t lengths[10] = RUMQATISS_RECORD_LENGTHS;
     static const uint8_t codes[10] = { 0, 1, 1, 1, 4, 1, 0, 0, 1, 0 };  /* what the event comes to where no thread lives */
     for (line = 0; line <= 255; line++) {
         for (size_t n = 1; n <= RUMQATISS_LONGEST_RECORD + 1; n++) {
@@ -383,7 +503,8 @@ static void try_lengths(void) {
 }
 
 /* Records that the rules refuse after a log from fresh: a send, a receive or a reply that names the running thread, a reply to a
-   thread in each of the standings in which it does not await the reply of the one that runs, and a wait where there is no device. */
+   thread in each of the standings in which it does not await the reply of the one that runs, a wait where there is no device, and a
+   receive from nobody who lives. */
 static void try_refusals(void) {
     static struct { char log[40], record[16]; uint8_t runs, code; } rows[] = {
         { "01", "020007000000", 0, RUMQATISS_NAMES_CALLER },
@@ -400,7 +521,11 @@ static void try_refusals(void) {
         { "010106", "040007000000", 1, RUMQATISS_NOT_AWAITING },                    /* it waits for the clock */
         { "01010901", "040007000000", 1, RUMQATISS_NOT_AWAITING },                  /* it waits at a device, whose index runs as a number */
         { "01", "0930", 0, RUMQATISS_BAD_NUMBER },                                  /* the first index of no device */
-        { "01", "09ff", 0, RUMQATISS_BAD_NUMBER }
+        { "01", "09ff", 0, RUMQATISS_BAD_NUMBER },
+        { "01", "0301", 0, RUMQATISS_NOT_LIVE },                                    /* nobody has this number yet */
+        { "01010501", "0301", 0, RUMQATISS_NOT_LIVE },                              /* whoever had it has ended */
+        { "01", "03fd", 0, RUMQATISS_NOT_LIVE },
+        { "01", "03fe", 0, RUMQATISS_BAD_NUMBER }
     };
     for (size_t i = 0; i < sizeof rows / sizeof rows[0]; i++) {
         uint8_t b[RUMQATISS_LONGEST_IMAGE], kind, runs;
@@ -414,6 +539,27 @@ static void try_refusals(void) {
         try_board((struct part){ b, len }, rec, ROOM, MARK, rows[i].code, c, RUMQATISS_NOBODY, none);
         try_board((struct part){ b, len }, rec, 0, MARK, rows[i].code, c, RUMQATISS_NOBODY, none);
     }
+}
+
+/* A thread ends, and all who stood in a call to it are told: two senders, of which one was received, and the listeners in places 0
+   and 3. They join ready in the order of these groups. From then on nobody can listen for it. */
+static void try_end(void) {
+    static char log[] = "010101010101" "0305" "020544332211" "0205efbeadde" "0305" "07" "0302" "07", end[] = "0505", receive[] = "0305";
+    static char ended[] = "020504050400" "000000000000000000000000000000000000000000000000"
+                          "000000000000000000000000000000000000000000000000" "9100"
+                          "00005000" "01015d00" "02026a00" "03037700" "04048400" "01020003"
+                          "02ff00000000" "100500000000" "00" "02ff00000000" "100544332211" "00" "02ff00000000" "1005efbeadde" "00"
+                          "02ff00000000" "100500000000" "00" "01ff00000000" "00ff00000000" "00";
+    uint8_t b[RUMQATISS_LONGEST_IMAGE], kind, runs;
+    uint32_t count, read;
+    uint16_t len;
+    struct part before = bytes_in(log), after = bytes_in(ended);
+    struct chosen c = { RUMQATISS_RUN, 4 };
+    line = 0;
+    uint8_t code = rumqatiss_replay(fresh.at, fresh.len, before.at, before.len, b, sizeof b, &kind, &runs, &count, &read, &len);
+    if (code != RUMQATISS_DONE) broken("a log was expected");
+    try_board((struct part){ b, len }, bytes_in(end), ROOM, MARK, RUMQATISS_DONE, c, RUMQATISS_NOBODY, after);
+    try_board(after, bytes_in(receive), ROOM, MARK, RUMQATISS_NOT_LIVE, c, RUMQATISS_NOBODY, none);
 }
 
 /* The first thread waits at a device, which then interrupts. */
@@ -480,8 +626,91 @@ static void try_editions(void) {
         for (changed.len = 0; changed.len < fresh.len; changed.len++) {
             int is_length = changed.len < 8 || line == 1 || line == 2;
             try_look_up(changed, 0, is_length ? RUMQATISS_BAD_LENGTH : RUMQATISS_OTHER_EDITION, 0, 0);
+            try_update(changed, ROOM, is_length ? RUMQATISS_BAD_LENGTH : RUMQATISS_OTHER_EDITION, halt, none);
         }
     }
+}
+
+/* One thread, which receives from each number in turn, in images of both editions: an update wakes it where no live thread has the
+   number. What it may not name (254, and its own number) no rules allowed. */
+static void try_listener(void) {
+    static char old_image[] = "0100ff010000" "1900" "00000c00" "05ff00000000" "00ff00000000" "00";
+    static char new_image[] = "0200ff010000" "000000000000000000000000000000000000000000000000"
+                              "000000000000000000000000000000000000000000000000" "4900" "00003c00" "05ff00000000" "00ff00000000" "00";
+    struct part im[2] = { bytes_in(old_image), bytes_in(new_image) };
+    uint8_t listens[2][sizeof first_bytes], woken[sizeof first_bytes];
+    memcpy(woken, first_bytes, sizeof woken);
+    woken[66] = 16;
+    for (line = 0; line <= 255; line++) {
+        woken[67] = (uint8_t)line;
+        for (int i = 0; i < 2; i++) {
+            struct part by = { listens[i], im[i].len };
+            memcpy(listens[i], im[i].at, im[i].len);
+            listens[i][im[i].len - 12] = (uint8_t)line;
+            if (line == RUMQATISS_NOBODY) {
+                try_updated(by, im[1]);
+                continue;
+            }
+            try_replay(by, none, ROOM, RUMQATISS_NO_IMAGE, halt, 0, 0, none);
+            try_look_up(by, 0, RUMQATISS_NO_IMAGE, 0, 0);
+            if (line == 0 || line == 254) {
+                try_update(by, ROOM, RUMQATISS_NO_IMAGE, halt, none);
+                try_update(by, 0, RUMQATISS_NO_IMAGE, halt, none);
+            } else {
+                try_updated(by, (struct part){ woken, sizeof woken });
+            }
+        }
+    }
+    listens[0][im[0].len - 12] = 5;
+    for (size_t room = 0; room < sizeof woken; room++) {
+        try_update((struct part){ listens[0], im[0].len }, room, RUMQATISS_SHORT_BUFFER, run_0, none);
+    }
+}
+
+/* A thread of every standing, with numbers that do not rise with the places. Those in places 1 and 2 receive from nobody who lives; the
+   first of them has one load in its inbox, and has received another. They join ready in this order, behind whoever is there, and
+   nobody else is touched: not the listener for a live thread, nor the receiver from anyone. */
+static void try_listeners(void) {
+    static char before[] = "02fd000a0101" "000000000000000000000000000000000000000000000000"
+                           "000000000000000001000000000000000000000000000000" "e600"
+                           "00096300" "01047000" "02027e00" "03088b00" "04019800" "0503a500" "0607b200" "0705bf00" "080bcc00" "1f06d900"
+                           "04" "1f" "07" "01ff00000000" "00ff00000000" "00"
+                           "05c800000000" "000389efcdab" "0103" "050a00000000" "00ff00000000" "00"
+                           "030401020384" "00ff00000000" "00" "02ff00000000" "00ff07000000" "00" "040489efcdab" "100a77665544" "00"
+                           "05ff00000000" "00ff00000000" "00" "072000000000" "000901000000" "00" "050900000000" "00ff00000000" "00"
+                           "06ff00000000" "00ff00000000" "00";
+    static char after[] = "02fd000a0301" "000000000000000000000000000000000000000000000000"
+                          "000000000000000001000000000000000000000000000000" "e800"
+                          "00096500" "01047200" "02028000" "03088d00" "04019a00" "0503a700" "0607b400" "0705c100" "080bce00" "1f06db00"
+                          "040102" "1f" "07" "01ff00000000" "00ff00000000" "00"
+                          "02ff00000000" "10c800000000" "0103" "02ff00000000" "100a00000000" "00"
+                          "030401020384" "00ff00000000" "00" "02ff00000000" "00ff07000000" "00" "040489efcdab" "100a77665544" "00"
+                          "05ff00000000" "00ff00000000" "00" "072000000000" "000901000000" "00" "050900000000" "00ff00000000" "00"
+                          "06ff00000000" "00ff00000000" "00";
+    line = 0;
+    try_updated(bytes_in(before), bytes_in(after));
+}
+
+/* 32 threads, and each receives from a number of its own that nobody has: all are woken, and the first runs. */
+static void try_all_listen(void) {
+    uint8_t before[56 + 32 * 17] = { 2, 31, 255, 32, [54] = 600 & 255, 600 >> 8 };
+    uint8_t after[56 + 32 * 17 + 31] = { 2, 31, 0, 32, 31, [54] = 631 & 255, 631 >> 8 };
+    for (uint8_t i = 0; i < 32; i++) {
+        uint16_t body = (uint16_t)(56 + 32 * 4 + 13 * i), later = (uint16_t)(body + 31);
+        uint8_t entry[2][4] = { { i, i, (uint8_t)body, (uint8_t)(body >> 8) }, { i, i, (uint8_t)later, (uint8_t)(later >> 8) } };
+        memcpy(before + 56 + 4 * i, entry[0], 4);
+        memcpy(after + 56 + 4 * i, entry[1], 4);
+        before[body] = 5;
+        before[body + 1] = (uint8_t)(100 + i);
+        before[body + 7] = 255;
+        if (i > 0) after[56 + 32 * 4 + i - 1] = i;
+        after[later] = i == 0 ? 1 : 2;
+        after[later + 1] = 255;
+        after[later + 6] = 16;
+        after[later + 7] = (uint8_t)(100 + i);
+    }
+    line = 0;
+    try_updated((struct part){ before, sizeof before }, (struct part){ after, sizeof after });
 }
 
 /* The longest log of 32 threads that wait: they are woken, all by a tick or each by its device, and wait again; at last slice ends,
@@ -551,8 +780,10 @@ static void try_large(void) {
     try_board(large, rec, ROOM, MARK, RUMQATISS_BAD_LENGTH, halt, RUMQATISS_NOBODY, none);
     try_replay(large, large, ROOM, RUMQATISS_BAD_LENGTH, halt, 0, 0, none);
     try_look_up(large, 0, RUMQATISS_BAD_LENGTH, 0, 0);
+    try_update(large, ROOM, RUMQATISS_BAD_LENGTH, halt, none);
     b[0] = 3;
     try_board(large, rec, ROOM, MARK, RUMQATISS_OTHER_EDITION, halt, RUMQATISS_NOBODY, none);
+    try_update(large, ROOM, RUMQATISS_OTHER_EDITION, halt, none);
 }
 
 /* Every empty buffer as a null pointer. */
@@ -568,28 +799,39 @@ static void try_nulls(void) {
     try_replay(fresh, none, 0, RUMQATISS_SHORT_BUFFER, halt, 0, 0, none);
     try_replay(fresh, none, ROOM, RUMQATISS_DONE, halt, 0, 0, fresh);
     try_look_up(none, 0, RUMQATISS_BAD_LENGTH, 0, 0);
+    try_update(none, 0, RUMQATISS_BAD_LENGTH, halt, none);
+    try_update(fresh, 0, RUMQATISS_SHORT_BUFFER, halt, none);
     try_fresh(0, RUMQATISS_SHORT_BUFFER, none);
     nulls = 0;
 }
 
 int main(int argc, char **argv) {
-    if (argc != 4) {
-        printf("usage: test BOARD.tsv LOAD.tsv REPLAY.tsv\n");
+    if (argc < 6) {
+        printf("usage: test BOARD.tsv LOAD.tsv REPLAY.tsv TRACES LOG..\n");
         return 1;
     }
     paint();
     try_table("board", argv[1], 9, board_row);
     try_table("load", argv[2], 7, load_row);
     try_table("replay", argv[3], 7, replay_row);
+    try_traces(argv[4], argv + 5, argc - 5);
     try_rooms();
     table = "record lengths";
     try_lengths();
     table = "refusals";
     try_refusals();
+    table = "end";
+    try_end();
     table = "devices";
     try_devices();
     table = "editions";
     try_editions();
+    table = "update of a listener";
+    try_listener();
+    table = "update of listeners";
+    try_listeners();
+    table = "update of 32 listeners";
+    try_all_listen();
     table = "longest image, at the clock";
     try_longest(0);
     table = "longest image, at devices";
@@ -598,7 +840,7 @@ int main(int argc, char **argv) {
     try_large();
     table = "null pointers";
     try_nulls();
-    printf("limits: record lengths, refusals, devices, editions, the longest images, large buffers and null pointers agree\n");
+    printf("limits: record lengths, refusals, an end, devices, editions, updates, the longest images, large buffers and null pointers agree\n");
     if (stack_used() > RUMQATISS_STACK) {
         printf("stack: %d bytes used, %d promised\n", (int)stack_used(), RUMQATISS_STACK);
         return 1;

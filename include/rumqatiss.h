@@ -6,13 +6,15 @@
    examples/board.c shows the whole of it.
 
    A log belongs to its image, and to the build that wrote it: a build whose rules are others may make something else of the same
-   records, and return 0. So keep RUMQATISS_RULES beside the log, and replay a log only where the number is the same. An image with
-   an empty log needs no number: whether a build takes it is told by its bytes.
+   records, and return 0. So keep RUMQATISS_RULES beside image and log, and replay a log only where the number is the same. Where it
+   is a lower one, the image is carried over once, after the old build has replayed the log (see AN UPDATE). Where it is a higher one,
+   leave the log to the build that wrote it; an image whose log is empty may be handed over, and is refused with 9 or 10 where this
+   build does not know such images.
 
    WHAT YOU OWE
    - A buffer is a pointer and a length. The pointer points to at least that many bytes. Any bytes may stand in them. Those
      of an image are refused unless they are the image of a consistent state. Whether it is the image that you kept, or the
-     medium has made another of it, only a check of your own can tell: examples/board.c has one.
+     medium has made another of it, only a check of your own can tell: examples/store.h has one.
    - With length 0 nothing is read or written through the pointer, so it may be null. A result's pointer may not be null.
    - `out` and the results are written. None of them may overlap another, nor a buffer that is read: the new image cannot go
      over the old one. Buffers that are only read (image, record, log) may overlap.
@@ -24,7 +26,8 @@
    - With code 0, and with 12 and 13 of rumqatiss_replay, the new image is in the first `length` bytes of `out`, and every byte
      past it is as it was. In all other cases every byte of `out` is as it was.
    - An image is taken only where it is that of a consistent state, byte for byte, with nothing behind it: image_len is exactly
-     the length that the image says.
+     the length that the image says. Only rumqatiss_update takes more, what was consistent by older rules, and what it gives is
+     consistent by these.
    This is proved of the library's source, and c/test.c tries it on what the compiler made of that. Not proved: that your stack is
    large enough. c/test.c measures what its calls use, which is no more than RUMQATISS_STACK bytes.
 
@@ -35,6 +38,21 @@
    those that wait at each device, and the bodies (see rumqatiss_look_up).
    An image of edition 1, as builds with rules 1 wrote it, is taken too. Nobody in it waits at a device, and its head lacks the 48
    counts: it has 8 bytes. The image that comes of it is of edition 2; rumqatiss_replay with an empty log changes nothing else of it.
+   Builds with rules 1 and 2 let a thread receive from a number that no live thread has. An image with such a thread, of either
+   edition, is refused with 10 now, by all but rumqatiss_update.
+
+   AN UPDATE, from a build with older rules, goes in this order. docs/UPDATE.md has it for whoever carries it out, and
+   examples/update.c is the second and third step.
+     1. The OLD build replays its log on its image once more, and the image that comes of it is kept with an empty log.
+     2. The NEW build's rumqatiss_update makes one of its own images of that one.
+     3. That image, with an empty log and the new RUMQATISS_RULES, takes the old one's place, all at once.
+   In another order loads are lost or mixed up:
+   - The new build replays the old log: a receive from a number that is not live stopped its caller then, and is refused now; an end
+     wakes more threads now; and the records behind it happen to whoever runs instead. The code is 0 all the same.
+   - The update comes before the old log is replayed: what the log holds has not happened to the image, and is lost with the log.
+   - The old log stays beside the new image: its records happen a second time.
+   - The old image is handed to another function than rumqatiss_update: it may get 10. It is not broken, and to begin with
+     rumqatiss_fresh then, or to clear the storage, loses every load in it.
 
    THE RECORDS. The kind is the first byte. A number and a device's index are one byte each. A word and a status are four bytes, the
    lowest first. A set of devices is six bytes: the device with index i is bit i % 8 of byte i / 8.
@@ -42,9 +60,10 @@
      kind             bytes                 what happens
      1 create         01                    a new thread joins the back of ready; its number is given
      2 send           02 number word        the running thread sends the word to that thread, and stops until the reply
-     3 receive        03 number             the running thread receives from that thread (FF: from anyone), or stops until it can
+     3 receive        03 number             the running thread receives from that thread (FF: from anyone), or stops until it can,
+                                            or until that thread ends
      4 reply          04 number word        the running thread replies to that thread, which runs at once
-     5 end            05 number             that thread ends; whoever stands in a send to it gets the answer 16
+     5 end            05 number             that thread ends; whoever stands in a send to it, or receives from it, gets the answer 16
      6 wait           06                    the running thread waits for the clock
      7 slice end      07                    the running thread goes to the back of ready, and the front runs
      8 tick           08                    all who wait for the clock join ready
@@ -66,14 +85,15 @@
       1    send, receive, reply or a wait, and nobody runs                                 board
       2    the number is above 253 (for receive: it is 254), or the index is above 47      board
       3    send, receive or reply names the running thread itself                          board
-      4    send, reply, end or look-up: no live thread has this number                     board, look_up
+      4    send, receive, reply, end or look-up: no live thread has this number
+           (for receive, 255 is anyone)                                                    board, look_up
       5    reply: the thread does not await the running thread's reply                     board
       6    create, and 32 threads live                                                     board
-      7    `out` is shorter than the new image                                             board, fresh, replay
+      7    `out` is shorter than the new image                                             board, fresh, replay, update
       8    the image is shorter than its edition's head (under 8 bytes, whatever its
-           edition), or is not as long as it says                                          board, replay, look_up
-      9    the image's edition is unknown: it is neither 1 nor 2                           board, replay, look_up
-     10    the image is that of no consistent state                                        board, replay, look_up
+           edition), or is not as long as it says                                          board, replay, look_up, update
+      9    the image's edition is unknown: it is neither 1 nor 2                           board, replay, look_up, update
+     10    the image is that of no consistent state (update: nor of one by older rules)    board, replay, look_up, update
      11    the log is longer than 32,768 bytes                                             replay
      12    board: not exactly one record. replay: the last record is cut short             board, replay
      13    the record is of no known kind                                                  board, replay
@@ -95,7 +115,7 @@ extern "C" {
 #define RUMQATISS_LONGEST_RECORD 11  /* bytes */
 #define RUMQATISS_RECORD_LENGTHS { 1, 6, 2, 6, 2, 1, 1, 1, 2, 11 }  /* bytes of a record of kind 1, 2, .. 10 */
 #define RUMQATISS_NOBODY 255         /* no number; in a receive, anyone */
-#define RUMQATISS_RULES 2            /* the number of the rules that this build follows, raised by every later change of the rules */
+#define RUMQATISS_RULES 3            /* the number of the rules that this build follows, raised by every later change of the rules */
 #define RUMQATISS_STACK 8080         /* bytes of your stack; a call was never measured to use more */
 
 /* Thread numbers run from 0 to 253. */
@@ -180,10 +200,22 @@ uint8_t rumqatiss_replay(const uint8_t *image, size_t image_len,
       2   the word that it sends (3, 4), in four bytes, the lowest first; else 0
       6   the answer to its last finished call: the code, 0, or 16 where the partner ended,
       7   from whom, or 255 where it is from no thread,
-      8   and the word, in four bytes: the one sent or replied, its own one back (16), or the device's status; else 0
+      8   and the word, in four bytes: the one sent or replied, its own one back (16 after a send), or the device's status; else 0
      12   how many stand in its inbox; behind it their places, first come first. */
 uint8_t rumqatiss_look_up(const uint8_t *image, size_t image_len, uint8_t number,
                           uint16_t *offset, uint16_t *length);
+
+/* An image that a build with older rules left becomes one of this build's (see AN UPDATE: its log was replayed before, by that build).
+   Each thread in it that receives from a number that is not live, by rising place, gets the answer 16, that number and the word 0,
+   and joins the back of ready. Then, where nobody runs, the front of ready does. Nothing else changes but the edition: whoever stood in a
+   send still does, in the same place of the same inbox, or awaiting the same reply, with the same word. Where no thread is woken, it
+   is what rumqatiss_replay gives with an empty log.
+   Returns the code. The tests in their order: the image's as above, where 10 does not ask that those whom threads receive from live; 7.
+   choice, next  codes 0, 7: of the image after the update. Another code: halt.
+   length        of the new image with code 0; else 0, and `out` is as it was. */
+uint8_t rumqatiss_update(const uint8_t *image, size_t image_len,
+                         uint8_t *out, size_t out_len,
+                         uint8_t *choice, uint8_t *next, uint16_t *length);
 
 #ifdef __cplusplus
 }

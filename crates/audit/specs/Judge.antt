@@ -1,9 +1,9 @@
--- Where all tests hold the nucleus is consistent (`judged`).
+-- Where all tests hold the nucleus is consistent, by the rules that they go by (`judged`).
 use Prim.Native.Nat.{ℕ, _-_, _≤_, _<_, _^_}
 use mathlib.Core.Path.{_≡_, refl, sym, ap, _∙_}
 use mathlib.Core.Logic.{_≢_}
 use mathlib.Core.List.{List, [], _∷_}
-use mathlib.Core.Bool.{true, false, _&&_}
+use mathlib.Core.Bool.{Bool, true, false, _&&_, _||_, or-false}
 use native.Mathlib.Decide.{ℕ-discrete, decLt}
 use native.Mathlib.Omega.{arith}
 use lib.ListN.{length, getD}
@@ -12,32 +12,39 @@ use borrow.Author.Tests.{eqb-true, eq-eqb, ne-eqb, leb-true, ltb-true, lt-ltb, l
 use Rattle.lists.specs.Lists.{none, bit, count}
 use Rattle.lists.specs.Laws.{never, and-left, and-right}
 use Rattle.rules.specs.Values.{nobody}
-use Rattle.rules.specs.Model.{places, devices, queueCount, lastNumber, Empty, Ready, Sending, Awaiting, Waiting, AtDevice, Thread, vacant, Model, ready, clock, device, inbox, lineCount, thread, line}
+use Rattle.rules.specs.Model.{places, devices, queueCount, lastNumber, Empty, Ready, Sending, Awaiting, Receiving, Waiting, AtDevice, Thread, vacant, Model, ready, clock, device, inbox, lineCount, thread, line}
 use Rattle.rules.specs.Rules.{hears, isNil}
-use Rattle.rules.specs.Consistent.{isNumber, asTable, belongs, Consistent}
-use Rattle.order.specs.Sound.{Fit, numbered, Sound, whole, out, inside}
+use Rattle.rules.specs.Consistent.{isNumber, asTable, belongs, OldConsistent, ListensToLive, ConsistentBy}
+use Rattle.order.specs.Sound.{Fit, numbered, Sound, old-whole, out, inside}
 use Rattle.order.specs.ByLine.{by-line, at-device, at-inbox}
 use Rattle.order.specs.Belongs.{Lineless, in-none, in-ready, in-clock, in-device}
-use Rattle.audit.specs.Tests.{fits, astray, home, runsAlone, unheard, placeTest, deskTest, Homes, Index}
+use Rattle.audit.specs.Tests.{fits, astray, home, runsAlone, unheard, namesLive, placeTest, deskTest, Homes, Index}
 use Rattle.audit.specs.Alone.{fit-of, named, home-none, no-line, found}
 
-module _ (m : Model) (sized : length (m .threads) ≡ places) (lined : length (m .lines) ≡ lineCount) (at who : List ℕ) (W : Homes m at) (X : Index m who)
+module _ (strict : Bool) (m : Model) (sized : length (m .threads) ≡ places) (lined : length (m .lines) ≡ lineCount) (at who : List ℕ) (W : Homes m at) (X : Index m who)
     (bounds : (p : ℕ) → (thread m p .word < 2 ^ 32) × (thread m p .answer < 2 ^ 32))
-    (good : (p : ℕ) → p < places → placeTest m at who p ≡ true) (desk : deskTest m ≡ true) where
+    (good : (p : ℕ) → p < places → placeTest strict m at who p ≡ true) (desk : deskTest m ≡ true) where
   fit : (p : ℕ) → Fit (thread m p)
   fit p = fit-of (thread m p) (elim (decLt p places) [ yes h ↦ and-left (fits (thread m p)) _ (good p h) | no h ↦ rw (out m sized p (omega arith)) ]) (bounds p)
 
-  good₁ : (p : ℕ) → p < places → runsAlone (m .running) p (thread m p) && (eqb (getD at p 0) (home who (thread m p)) && unheard (thread m (getD who (thread m p .partner) 0)) (thread m p)) ≡ true
+  -- the place where the partner of the thread at p lives, if it does
+  abbrev met : ℕ → ℕ
+  met p = getD who (thread m p .partner) 0
+
+  good₁ : (p : ℕ) → p < places → runsAlone (m .running) p (thread m p) && (eqb (getD at p 0) (home who (thread m p)) && (unheard (thread m (met p)) (thread m p) && namesLive strict (met p) (thread m p))) ≡ true
   good₁ p h = and-right (fits (thread m p)) _ (good p h)
 
-  good₂ : (p : ℕ) → p < places → eqb (getD at p 0) (home who (thread m p)) && unheard (thread m (getD who (thread m p .partner) 0)) (thread m p) ≡ true
+  good₂ : (p : ℕ) → p < places → eqb (getD at p 0) (home who (thread m p)) && (unheard (thread m (met p)) (thread m p) && namesLive strict (met p) (thread m p)) ≡ true
   good₂ p h = and-right (runsAlone (m .running) p (thread m p)) _ (good₁ p h)
 
   at-home : (p : ℕ) → p < places → getD at p 0 ≡ home who (thread m p)
   at-home p h = eqb-true _ _ (and-left (eqb (getD at p 0) (home who (thread m p))) _ (good₂ p h))
 
-  silent : (p : ℕ) → p < places → unheard (thread m (getD who (thread m p .partner) 0)) (thread m p) ≡ true
-  silent p h = and-right (eqb (getD at p 0) (home who (thread m p))) _ (good₂ p h)
+  good₃ : (p : ℕ) → p < places → unheard (thread m (met p)) (thread m p) && namesLive strict (met p) (thread m p) ≡ true
+  good₃ p h = and-right (eqb (getD at p 0) (home who (thread m p))) _ (good₂ p h)
+
+  silent : (p : ℕ) → p < places → unheard (thread m (met p)) (thread m p) ≡ true
+  silent p h = and-left (unheard (thread m (met p)) (thread m p)) _ (good₃ p h)
 
   -- nobody is astray: the partner is found
   partner : (p : ℕ) → Sending ≤ thread m p .standing → thread m p .standing ≤ Awaiting → getD who (thread m p .partner) 0 < places
@@ -176,9 +183,26 @@ module _ (m : Model) (sized : length (m .threads) ≡ places) (lined : length (m
     stood = stood;
   }
 
-  pub judged : Consistent m
-  judged = whole m steady (λ z. nil (line m ready) (rw (eq-eqb (m .running) none z) at (and-right (isNumber (m .last)) _ desk)))
-    where
-      nil : (l : List ℕ) → isNil l ≡ true → l ≡ []
-      nil [] e = refl
-      nil (x ∷ l) e = never refl (sym e)
+  nil : (l : List ℕ) → isNil l ≡ true → l ≡ []
+  nil [] e = refl
+  nil (x ∷ l) e = never refl (sym e)
+
+  old : OldConsistent m
+  old = old-whole m steady (λ z. nil (line m ready) (rw (eq-eqb (m .running) none z) at (and-right (isNumber (m .last)) _ desk)))
+
+  -- whom a receiver names is found
+  listens : strict ≡ true → ListensToLive m
+  listens e p five k =
+      let t : namesLive strict (met p) (thread m p) ≡ true = and-right (unheard (thread m (met p)) (thread m p)) _ (good₃ p (inside m sized p (λ z. omega arith))) in
+      let l : met p < places = ltb-true _ _ (rw (e, five, ne-eqb (thread m p .partner) nobody k) at t) in
+      let r : asTable Receiving (thread m p .partner) (thread m p .word) ≡ true = rw five at (fit p .table (λ z. omega arith)) in
+      let a : isNumber (thread m p .partner) || false ≡ true = rw (ne-eqb (thread m p .partner) nobody k) at (and-left (isNumber (thread m p .partner) || eqb (thread m p .partner) nobody) _ r) in
+      let b = X .back (thread m p .partner) (leb-true _ _ (sym (or-false (isNumber (thread m p .partner))) ∙ a)) (λ z. omega arith) in
+      (met p, b .1, b .2)
+
+  judged-by : (b : Bool) → strict ≡ b → ConsistentBy b m
+  judged-by true e = record { old = old; listens = listens e }
+  judged-by false e = old
+
+  pub judged : ConsistentBy strict m
+  judged = judged-by strict refl

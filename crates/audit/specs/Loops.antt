@@ -17,17 +17,17 @@ use Rattle.lists.specs.Tells.{Tells}
 use Rattle.lines.specs.Lines.{lineOf, Tidy}
 use Rattle.lines.specs.Along.{no-place}
 use Rattle.rules.specs.Model.{places, lineCount, lastNumber, Empty, Running, Thread, Model, thread, ready}
-use Rattle.rules.specs.Consistent.{Consistent}
+use Rattle.rules.specs.Consistent.{OldConsistent}
 use Rattle.table.specs.Cells.{cell, modelOf, standsAt}
 use Rattle.table.specs.Rows.{thread-at, thread-past, line-at}
 use Rattle.table.specs.Choose.{nil-front}
-use Rattle.audit.specs.Tests.{fits, home, runsAlone, unheard, seatTest, placeTest, deskTest, Index}
+use Rattle.audit.specs.Tests.{fits, home, runsAlone, unheard, namesLive, seatTest, placeTest, deskTest, Index}
 
--- four answers of the code, and the test that they make up
-pub seat-test : (m : Model) (at who : List ℕ) (p r h : ℕ) (t : Thread) (a b q : Bool) → t ≡ thread m p → r ≡ getD who (t .partner) 0
-    → a ≡ fits t → b ≡ runsAlone (m .running) p t → h ≡ home who t → q ≡ unheard (thread m r) t
-    → a && (b && (eqb (getD at p 0) h && q)) ≡ placeTest m at who p
-seat-test m at who p r h t a b q s z ea eb eh eq = rw (ea, eb, eh, eq, z) (ap (seatTest m at who p) s)
+-- five answers of the code, and the test that they make up
+pub seat-test : (strict : Bool) (m : Model) (at who : List ℕ) (p r h : ℕ) (t : Thread) (a b q n : Bool) → t ≡ thread m p → r ≡ getD who (t .partner) 0
+    → a ≡ fits t → b ≡ runsAlone (m .running) p t → h ≡ home who t → q ≡ unheard (thread m r) t → n ≡ namesLive strict r t
+    → a && (b && (eqb (getD at p 0) h && (q && n))) ≡ placeTest strict m at who p
+seat-test strict m at who p r h t a b q n s z ea eb eh eq en = rw (ea, eb, eh, eq, en, z) (ap (seatTest strict m at who p) s)
 
 -- how many numbers a byte has
 abbrev pub bytes : ℕ
@@ -108,7 +108,7 @@ indexed {b} {who} y x w l k = record {
 }
 
 -- two threads of one number are not consistent
-pub twice-not : {b : List ℕ} (y x : ℕ) (w l : List ℕ) → Twice b → Consistent (modelOf y x b w l) → ⊥
+pub twice-not : {b : List ℕ} (y x : ℕ) (w l : List ℕ) → Twice b → OldConsistent (modelOf y x b w l) → ⊥
 twice-not {b} y x w l t C =
     let lives : (p : ℕ) → p < places → standsAt b p ≡ true → thread (modelOf y x b w l) p .standing ≢ Empty = λ p h s. rw (thread-at y x b w l p h) (eqb-false _ _ (not-true _ s)) in
     t .differ (C .differ (t .one) (t .other) (lives (t .one) (t .places .0) (t .stand .0)) (lives (t .other) (t .places .1) (t .stand .1))

@@ -9,7 +9,7 @@ use lib.ListN.{getD}
 use lib.Dec.{eqb, ltb}
 use Rattle.lists.specs.Lists.{none, bit, count}
 use Rattle.rules.specs.Values.{nobody}
-use Rattle.rules.specs.Model.{places, devices, lastNumber, Empty, Running, Ready, Sending, Awaiting, Waiting, AtDevice, Thread, Model, ready, clock, device, inbox, lineCount, thread, line}
+use Rattle.rules.specs.Model.{places, devices, lastNumber, Empty, Running, Ready, Sending, Awaiting, Receiving, Waiting, AtDevice, Thread, Model, ready, clock, device, inbox, lineCount, thread, line}
 use Rattle.rules.specs.Rules.{idle, hears, isNil}
 use Rattle.rules.specs.Consistent.{isNumber, asTable, isAnswer}
 
@@ -46,12 +46,18 @@ runsAlone running p t = cond (eqb (t .standing) Running) (eqb running p) true
 abbrev pub unheard : Thread → Thread → Bool
 unheard d t = cond (eqb (t .standing) Sending) (not (hears d (t .number))) true
 
--- all of these, of a thread t that stands at p
-abbrev pub seatTest : Model → List ℕ → List ℕ → ℕ → Thread → Bool
-seatTest m at who p t = fits t && (runsAlone (m .running) p t && (eqb (getD at p 0) (home who t) && unheard (thread m (getD who (t .partner) 0)) t))
+-- whoever receives from a number names a thread that lives, at r. (The old rules, where strict is false, did not ask.)
+abbrev pub namesLive : Bool → ℕ → Thread → Bool
+namesLive strict r t = cond strict (cond (eqb (t .standing) Receiving) (eqb (t .partner) nobody || ltb r places) true) true
 
-abbrev pub placeTest : Model → List ℕ → List ℕ → ℕ → Bool
-placeTest m at who p = seatTest m at who p (thread m p)
+-- all of these, of a thread t that stands at p
+abbrev pub seatTest : Bool → Model → List ℕ → List ℕ → ℕ → Thread → Bool
+seatTest strict m at who p t =
+    let r = getD who (t .partner) 0 in
+    fits t && (runsAlone (m .running) p t && (eqb (getD at p 0) (home who t) && (unheard (thread m r) t && namesLive strict r t)))
+
+abbrev pub placeTest : Bool → Model → List ℕ → List ℕ → ℕ → Bool
+placeTest strict m at who p = seatTest strict m at who p (thread m p)
 
 -- the last number given, and who runs
 abbrev pub deskTest : Model → Bool

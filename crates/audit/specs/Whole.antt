@@ -18,8 +18,9 @@ use Rattle.lines.specs.Lines.{lineOf, Tidy}
 use Rattle.lines.specs.Arrays.{once}
 use Rattle.lines.specs.Along.{no-place}
 use Rattle.rules.specs.Model.{places, lineCount}
-use Rattle.rules.specs.Consistent.{Consistent}
-use Rattle.table.specs.Cells.{cell, byteRows, wordRows, threadOf, modelOf, shown, Filled, Stands}
+use Rattle.rules.specs.Consistent.{ConsistentBy}
+use Rattle.order.specs.Sound.{old-of}
+use Rattle.table.specs.Cells.{cell, byteRows, wordRows, threadOf, modelOf, shown, Filled, StandsBy}
 use Rattle.table.specs.Rows.{thread-at, thread-past, line-at, line-past}
 use Rattle.table.specs.declared.Desk.{Desk}
 use Rattle.audit.specs.Tests.{placeTest, deskTest, Homes}
@@ -28,26 +29,26 @@ use Rattle.audit.specs.Passes.{passes, seated}
 use Rattle.audit.specs.Loops.{Indexed, Twice, AllPass, indexed, twice-not}
 
 -- every place passes, with an index of the numbers
-pub record Members (x : ℕ) (b w at : List ℕ) : Type 0 where
+pub record Members (strict : Bool) (x : ℕ) (b w at : List ℕ) : Type 0 where
   pub who : List ℕ
   pub index : Indexed b who places
-  pub tests : (p : ℕ) → p < places → placeTest (modelOf 0 x b w []) at who p ≡ true
+  pub tests : (p : ℕ) → p < places → placeTest strict (modelOf 0 x b w []) at who p ≡ true
 
 -- no nucleus of these places is consistent
-pub record Strangers (x : ℕ) (b w at : List ℕ) : Type 0 where
-  pub never : (y : ℕ) (l : List ℕ) → Homes (modelOf y x b w l) at → Consistent (modelOf y x b w l) → ⊥
+pub record Strangers (strict : Bool) (x : ℕ) (b w at : List ℕ) : Type 0 where
+  pub never : (y : ℕ) (l : List ℕ) → Homes (modelOf y x b w l) at → ConsistentBy strict (modelOf y x b w l) → ⊥
 
-module _ {x : ℕ} {b w at : List ℕ} where
-  pub strangers-twice : Twice b → Strangers x b w at
-  strangers-twice t = record { never = λ y l W C. twice-not y x w l t C }
+module _ {strict : Bool} {x : ℕ} {b w at : List ℕ} where
+  pub strangers-twice : Twice b → Strangers strict x b w at
+  strangers-twice t = record { never = λ y l W C. twice-not y x w l t (old-of strict C) }
 
-  pub told : {who : List ℕ} → Indexed b who places → {r : Bool} → AllPass r (placeTest (modelOf 0 x b w []) at who) → Tells r (Members x b w at) (Strangers x b w at)
+  pub told : {who : List ℕ} → Indexed b who places → {r : Bool} → AllPass r (placeTest strict (modelOf 0 x b w []) at who) → Tells r (Members strict x b w at) (Strangers strict x b w at)
   told {who} k t = record {
     yes = λ e. record { who = who; index = k; tests = t .yes e };
     no = λ e. record {
       never = λ y l W C.
           let v = t .no e in
-          never (passes (modelOf y x b w l) at who W (indexed y x w l k) C (v .0) (v .1)) (v .2);
+          never (passes strict (modelOf y x b w l) at who W (indexed y x w l k) C (v .0) (v .1)) (v .2);
     };
   }
 
@@ -64,10 +65,10 @@ found {l} {at} y x b w k = record {
 
 -- ---- what each part has told, and the answer
 
-consists : (d : Desk) {b w l at : List ℕ} → Lines.Whereabouts places lineCount l at → Members (d .running .0) b w at → deskTest (shown d b w l) ≡ true → ((i : ℕ) → getD w i 0 < 2 ^ 32)
-    → Consistent (shown d b w l)
-consists d {b} {w} {l} {at} k s e fit =
-    judged (shown d b w l) (length-tab places (threadOf b w)) (length-tab lineCount (lineOf places l)) at (s .who) (found (d .last .0) (d .running .0) b w k)
+consists : (strict : Bool) (d : Desk) {b w l at : List ℕ} → Lines.Whereabouts places lineCount l at → Members strict (d .running .0) b w at → deskTest (shown d b w l) ≡ true
+    → ((i : ℕ) → getD w i 0 < 2 ^ 32) → ConsistentBy strict (shown d b w l)
+consists strict d {b} {w} {l} {at} k s e fit =
+    judged strict (shown d b w l) (length-tab places (threadOf b w)) (length-tab lineCount (lineOf places l)) at (s .who) (found (d .last .0) (d .running .0) b w k)
     (indexed (d .last .0) (d .running .0) w l (s .index))
     (λ p. elim (decLt p places) [
       | yes h ↦ rw (thread-at (d .last .0) (d .running .0) b w l p h) (fit (cell 0 p), fit (cell 1 p))
@@ -75,20 +76,20 @@ consists d {b} {w} {l} {at} k s e fit =
     ])
     (s .tests) e
 
-module _ {d : Desk} {b w l : List ℕ} where
-  pub not-tidy : (Tidy places lineCount l → ⊥) → Stands d b w l → ⊥
+module _ {strict : Bool} {d : Desk} {b w l : List ℕ} where
+  pub not-tidy : (Tidy places lineCount l → ⊥) → StandsBy strict d b w l → ⊥
   not-tidy n s = n (s .whole .lines)
 
-  pub not-members : {at : List ℕ} → Lines.Whereabouts places lineCount l at → Strangers (d .running .0) b w at → Stands d b w l → ⊥
+  pub not-members : {at : List ℕ} → Lines.Whereabouts places lineCount l at → Strangers strict (d .running .0) b w at → StandsBy strict d b w l → ⊥
   not-members k n s = n .never (d .last .0) l (found (d .last .0) (d .running .0) b w k) (s .consistent)
 
-  pub not-seated : deskTest (shown d b w l) ≡ false → Stands d b w l → ⊥
-  not-seated e s = never (seated (shown d b w l) (s .consistent)) e
+  pub not-seated : deskTest (shown d b w l) ≡ false → StandsBy strict d b w l → ⊥
+  not-seated e s = never (seated (shown d b w l) (old-of strict (s .consistent))) e
 
   -- the last test: the filled set, and the sizes
-  pub answer : {at : List ℕ} (f x y : ℕ) → Lines.Whereabouts places lineCount l at → Members (d .running .0) b w at → deskTest (shown d b w l) ≡ true → ((i : ℕ) → getD w i 0 < 2 ^ 32)
+  pub answer : {at : List ℕ} (f x y : ℕ) → Lines.Whereabouts places lineCount l at → Members strict (d .running .0) b w at → deskTest (shown d b w l) ≡ true → ((i : ℕ) → getD w i 0 < 2 ^ 32)
       → Filled f b → x ≡ length b → y ≡ length w
-      → Tells (eqb f (d .filled) && (eqb x (byteRows * places) && eqb y (wordRows * places))) (Stands d b w l) (Stands d b w l → ⊥)
+      → Tells (eqb f (d .filled) && (eqb x (byteRows * places) && eqb y (wordRows * places))) (StandsBy strict d b w l) (StandsBy strict d b w l → ⊥)
   answer f x y k s e fit z ex ey = record {
     yes = λ t.
         let t₁ = and-right (eqb f (d .filled)) _ t in
@@ -99,7 +100,7 @@ module _ {d : Desk} {b w l : List ℕ} where
             lines = k .tidy;
           };
           filled = sym (eqb-true _ _ (and-left (eqb f (d .filled)) _ t)) ∙ z;
-          consistent = consists d k s e fit;
+          consistent = consists strict d k s e fit;
         };
     no = λ t c.
         never (rw (eq-eqb f (d .filled) (z ∙ sym (c .filled)), eq-eqb x (byteRows * places) (ex ∙ c .whole .blocks), eq-eqb y (wordRows * places) (ey ∙ c .whole .words))) t;

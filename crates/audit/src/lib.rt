@@ -8,8 +8,8 @@ ghost use Rattle.lists.specs.Tells.{Tells};
 ghost use Rattle.lines.specs.Lines.{Tidy};
 ghost use Rattle.rules.specs.Model.{places, lineCount, thread};
 ghost use Rattle.rules.specs.Consistent.{asTable, isAnswer};
-ghost use Rattle.table.specs.Cells.{modelOf, shown, Filled, Stands, asThread};
-ghost use Rattle.audit.specs.Tests.{isClean, fits as fitting, home as homeOf, runsAlone, unheard as quietTo, placeTest, deskTest};
+ghost use Rattle.table.specs.Cells.{modelOf, shown, Filled, StandsBy, Stands, asThread};
+ghost use Rattle.audit.specs.Tests.{isClean, fits as fitting, home as homeOf, runsAlone, unheard as quietTo, namesLive, placeTest, deskTest};
 ghost use Rattle.audit.specs.Loops.{Indexed, Twice, AllPass};
 ghost use Rattle.audit.specs.Whole.{Members, Strangers};
 use lines::DEVICES;
@@ -174,8 +174,22 @@ fn runs_alone(running: Place, p: Place, t: Thread) -> bool
     true
 }
 
+// Does t, if it receives from a number, name a thread that lives, at r? Where strict is false that is not asked.
+fn names_live(strict: bool, r: Place, t: Thread) -> bool
+    ensures { λ r′. ⌜ r′ ≡ namesLive strict (r .0) (asThread t) ⌝ }
+{
+    if !strict {
+        return true;
+    }
+    if t.standing != RECEIVING {
+        return true;
+    }
+    (t.partner.0 == NOBODY) | (r.0 < LIMIT)
+}
+
 // Does the place p pass, with all that it has to do with others?
 fn place(
+    strict: bool,
     b: &Blocks,
     w: &Words,
     at: &[u8; PLACES],
@@ -184,12 +198,13 @@ fn place(
     p: Place,
 ) -> bool
     requires { ⌜ p .0 < places ⌝ }
-    ensures { λ r. ⌜ r ≡ placeTest (modelOf 0 (running .0) (now (b .entry)) (now (w .entry)) []) (now (at .entry)) (now (who .entry)) (p .0) ⌝ }
+    ensures { λ r. ⌜ r ≡ placeTest strict (modelOf 0 (running .0) (now (b .entry)) (now (w .entry)) []) (now (at .entry)) (now (who .entry)) (p .0) ⌝ }
 {
     let t = table::read(b, w, p);
     let r = Place(who[wide(t.partner.0)]);
     let seated = at[p.0 as usize] == home(who, t);
-    fits(t) & (runs_alone(running, p, t) & (seated & unheard(b, r, t)))
+    let heard = unheard(b, r, t) & names_live(strict, r, t);
+    fits(t) & (runs_alone(running, p, t) & (seated & heard))
 }
 
 // ---- the index of numbers
@@ -229,12 +244,19 @@ fn index(b: &Blocks, who: &mut [u8; ENTRIES]) -> bool
 // ---- all places
 
 // Does every place pass?
-fn every(b: &Blocks, w: &Words, at: &[u8; PLACES], who: &[u8; ENTRIES], running: Place) -> bool
-    ensures { λ r. ⌜ AllPass r (placeTest (modelOf 0 (running .0) (now (b .entry)) (now (w .entry)) []) (now (at .entry)) (now (who .entry))) ⌝ }
+fn every(
+    strict: bool,
+    b: &Blocks,
+    w: &Words,
+    at: &[u8; PLACES],
+    who: &[u8; ENTRIES],
+    running: Place,
+) -> bool
+    ensures { λ r. ⌜ AllPass r (placeTest strict (modelOf 0 (running .0) (now (b .entry)) (now (w .entry)) []) (now (at .entry)) (now (who .entry))) ⌝ }
 {
     let mut p: u8 = 0;
     while p < LIMIT {
-        if !place(b, w, at, who, running, Place(p)) {
+        if !place(strict, b, w, at, who, running, Place(p)) {
             return false;
         }
         p += 1;
@@ -294,26 +316,26 @@ fn words(s: &[u32]) -> usize
 }
 
 // Do all places pass, each with all that it has to do with others?
-fn members(b: &Blocks, w: &Words, at: &[u8; PLACES], running: Place) -> bool
-    ensures { λ r. ⌜ Tells r (Members (running .0) (now (b .entry)) (now (w .entry)) (now (at .entry))) (Strangers (running .0) (now (b .entry)) (now (w .entry)) (now (at .entry))) ⌝ }
+fn members(strict: bool, b: &Blocks, w: &Words, at: &[u8; PLACES], running: Place) -> bool
+    ensures { λ r. ⌜ Tells r (Members strict (running .0) (now (b .entry)) (now (w .entry)) (now (at .entry))) (Strangers strict (running .0) (now (b .entry)) (now (w .entry)) (now (at .entry))) ⌝ }
 {
     let mut who = [NONE; ENTRIES];
     if !index(b, &mut who) {
         return false;
     }
-    every(b, w, at, &who, running)
+    every(strict, b, w, at, &who, running)
 }
 
-// Do the desk and the arrays stand for a consistent nucleus? Any may come.
-pub fn consistent(b: &Blocks, w: &Words, l: &Links, d: Desk) -> bool
-    ensures { λ r. ⌜ Tells r (Stands d (now (b .entry)) (now (w .entry)) (now (l .entry))) (Stands d (now (b .entry)) (now (w .entry)) (now (l .entry)) → ⊥) ⌝ }
+// Do the desk and the arrays stand for a consistent nucleus? Any may come. Where strict is false, what counts is the old rules' idea of consistent.
+pub fn consistent_by(strict: bool, b: &Blocks, w: &Words, l: &Links, d: Desk) -> bool
+    ensures { λ r. ⌜ Tells r (StandsBy strict d (now (b .entry)) (now (w .entry)) (now (l .entry))) (StandsBy strict d (now (b .entry)) (now (w .entry)) (now (l .entry)) → ⊥) ⌝ }
 {
     let seats = lines::survey(l);
     if !seats.tidy {
         return false;
     }
     let at = seats.at;
-    if !members(b, w, &at, d.running) {
+    if !members(strict, b, w, &at, d.running) {
         return false;
     }
     if !seated(b, l, d) {
@@ -321,4 +343,11 @@ pub fn consistent(b: &Blocks, w: &Words, l: &Links, d: Desk) -> bool
     }
     // The sizes are those of the types; a proof does not know them of what is lent, and learns them here.
     (filling(b) == d.filled) & ((bytes(b) == table::BYTES) & (words(w) == table::WORDS))
+}
+
+// The same, by the rules as they are.
+pub fn consistent(b: &Blocks, w: &Words, l: &Links, d: Desk) -> bool
+    ensures { λ r. ⌜ Tells r (Stands d (now (b .entry)) (now (w .entry)) (now (l .entry))) (Stands d (now (b .entry)) (now (w .entry)) (now (l .entry)) → ⊥) ⌝ }
+{
+    consistent_by(true, b, w, l, d)
 }

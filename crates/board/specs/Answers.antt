@@ -25,6 +25,7 @@ use Rattle.saving.specs.Save.{Saves, inconsistent, short, saved}
 use Rattle.loading.specs.Loads.{Loads}
 use Rattle.loading.specs.Accepts.{refuses-of, accepted-of}
 use Rattle.loading.specs.declared.Loaded.{Loaded}
+use Rattle.updating.specs.Updates.{Updates, update-refuses, update-takes}
 use Rattle.image.specs.Locates.{Locates, spotted, missing, unread as unseen}
 use Rattle.image.specs.Locating.{locate-within}
 use Rattle.journal.specs.Format.{readAt}
@@ -34,9 +35,10 @@ use Rattle.logbook.specs.Log.{limit, recordsIn}
 use Rattle.logbook.specs.Promise.{Came, Replays, inconsistent as torn, too-long, came}
 use Rattle.logbook.specs.declared.Replayed.{Replayed}
 use Rattle.logbook.specs.Reading.{Stops, at-end, cut-short, unknown, past-end}
-use Rattle.board.specs.Promise.{placed, declined, acted, badCode, taken, stepOn, Boards, unloaded, stepped, unplayed, kept, replayOn, Brings, unread, played, freshOn}
+use Rattle.board.specs.Promise.{placed, declined, acted, badCode, taken, stepOn, Boards, unloaded, stepped, unplayed, kept, replayOn, Brings, unread, played, freshOn, uncarried, carriedOn, Carries, untaken, took-over}
 use Rattle.board.specs.declared.Told.{Told}
 use Rattle.board.specs.declared.Brought.{Brought}
+use Rattle.board.specs.declared.Carried.{Carried}
 
 -- ---- what the save of a consistent state comes to
 pub record Tight (m : Model) (before a : List ℕ) : Type 0 where
@@ -162,9 +164,35 @@ module _ {image : List ℕ} {l : Loaded} (L : Loads image l) where
   pub bring-played : {log out : List ℕ} {t : Brought × List ℕ} → l .code ≡ 0 → t ≡ replayOn (view (l .state)) log out → Brings image log out t
   bring-played z h = let A = accepted-of L z in played (view (l .state)) (A .image) h
 
+-- ---- the update
+module _ (s : State) (k : Consists s) (out : List ℕ) {x : Choice} (e : x ≡ choice (view s)) {a : List ℕ} {c n : ℕ} (K : Saves s out c n a) where
+  itself : Shows s (view s)
+  itself = record { consists = k; seen = refl }
+
+  pub carry-short : {t : Carried} → c ≢ 0 → t ≡ uncarried 7 x → (t, a) ≡ carriedOn (view s) out
+  unfolding carriedOn
+  carry-short y f = let p = save-tight itself K y in rw (lt-ltb (length out) (length (encode (view s))) (p .room), f, e, p .same) refl
+
+  pub carry-done : {y z l : ℕ} → c ≡ 0 → y ≡ choiceKind x → z ≡ choiceRuns x → l ≡ n → (record { code = 0; choice = y; next = z; length = l }, a) ≡ carriedOn (view s) out
+  unfolding carriedOn
+  carry-done w f g h = let p = save-put itself K w in rw (le-ltb (length out) (length (encode (view s))) (p .room), f, g, h, e, p .size, p .bytes) refl
+
+  pub carry-narrow : n ≤ longestImage
+  carry-narrow = save-short itself K
+
+module _ {image : List ℕ} {l : Loaded} (U : Updates image l) where
+  pub carry-refused : {out : List ℕ} {t : Carried} → l .code ≢ 0 → t ≡ uncarried (l .code) Halt → Carries image out (t, out)
+  carry-refused {out} k h = untaken (l .code) (update-refuses U k) (ap (λ (z : Carried). (z, out)) h)
+
+  pub carry-holds : l .code ≡ 0 → Consists (l .state)
+  carry-holds z = update-takes U .0 z .2 .consists
+
+  pub carry-taken : {out : List ℕ} {t : Carried × List ℕ} → l .code ≡ 0 → t ≡ carriedOn (view (l .state)) out → Carries image out t
+  carry-taken {out} z h = let v = update-takes U .0 z in took-over (v .0) (v .1) (h ∙ ap (λ (m : Model). carriedOn m out) (v .2 .seen))
+
 -- ---- a part
 -- offset and length fit in two bytes
 pub locate-short : {s : List ℕ} {n c o l : ℕ} → Locates s n c o l → o + l ≤ longestImage
-locate-short (spotted F z) = let w = locate-within (spotted F z) in let e = ap length (F .image .bytes) in let k = longest-as (F .row) (F .m) (known-few (F .image .known)) (F .image .consistent) in omega arith
+locate-short (spotted F z) = let w = locate-within (spotted F z) in let e = ap length (F .image .bytes) in let k = longest-as (F .row) (F .m) (known-few (F .image .known)) (F .image .consistent .old) in omega arith
 locate-short (missing A z p q) = omega arith
 locate-short (unseen R p q) = omega arith

@@ -8,7 +8,7 @@ use lib.Dec.{eqb, ltb}
 use lib.ListN.{length}
 use Rattle.lists.specs.Laws.{by-test}
 use Rattle.rules.specs.Model.{Model}
-use Rattle.rules.specs.Rules.{Outcome, outcome}
+use Rattle.rules.specs.Rules.{Outcome, outcome, updated}
 use Rattle.rules.specs.declared.Choice.the-variants.{Halt}
 use Rattle.journal.specs.Format.{readAt}
 use Rattle.journal.specs.declared.Read.{Read}
@@ -16,9 +16,10 @@ use Rattle.journal.specs.declared.Read.the-variants.{Record, AtEnd, CutShort, U
 use Rattle.saving.specs.Format.{encode}
 use Rattle.loading.specs.Accepts.{refuses-not, refuses-one}
 use Rattle.loading.specs.Injective.{image-one}
-use Rattle.board.specs.Promise.{declined, acted, taken, stepOn, Boards, unloaded, stepped, unplayed, replayOn, Brings, unread, played}
+use Rattle.board.specs.Promise.{declined, acted, taken, stepOn, Boards, unloaded, stepped, unplayed, replayOn, Brings, unread, played, uncarried, carriedOn, Carries, untaken, took-over}
 use Rattle.board.specs.declared.Told.{Told}
 use Rattle.board.specs.declared.Brought.{Brought}
+use Rattle.board.specs.declared.Carried.{Carried}
 
 pub board-one : {image rec out : List ℕ} {t u : Told × List ℕ} → Boards image rec out t → Boards image rec out u → t ≡ u
 board-one {out = out} (unloaded c R h) (unloaded d Q g) = h ∙ ap (λ (c : ℕ). (declined c Halt, out)) (refuses-one R Q) ∙ sym g
@@ -31,6 +32,12 @@ brings-one {out = out} (unread c R h) (unread d Q g) = h ∙ ap (λ (c : ℕ). (
 brings-one (unread c R h) (played n J g) = absurd (refuses-not R (n, J))
 brings-one (played m I h) (unread d Q g) = absurd (refuses-not Q (m, I))
 brings-one {log = log} {out = out} (played m I h) (played n J g) = h ∙ ap (λ (m : Model). replayOn m log out) (image-one I J) ∙ sym g
+
+pub carries-one : {image out : List ℕ} {t u : Carried × List ℕ} → Carries image out t → Carries image out u → t ≡ u
+carries-one {out = out} (untaken c R h) (untaken d Q g) = h ∙ ap (λ (c : ℕ). (uncarried c Halt, out)) (refuses-one R Q) ∙ sym g
+carries-one (untaken c R h) (took-over n J g) = absurd (refuses-not R (n, J))
+carries-one (took-over m I h) (untaken d Q g) = absurd (refuses-not Q (m, I))
+carries-one {out = out} (took-over m I h) (took-over n J g) = h ∙ ap (λ (m : Model). carriedOn (updated m) out) (image-one I J) ∙ sym g
 
 -- ---- a refused call changes nothing, however long the buffer
 acted-still : (m : Model) (o : Outcome) (out : List ℕ) → acted m o out .0 .code ≢ 0 → acted m o out .1 ≡ out

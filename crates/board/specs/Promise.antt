@@ -1,5 +1,5 @@
--- WHAT THE BOARD IS ANSWERED (document 01, "The board"), for any bytes whatever: each result, and every byte of the output buffer. An entry takes an image,
--- and gives the image after; between two calls nothing is kept. That each promise settles the answer is shown in Once.antt.
+-- WHAT THE BOARD IS ANSWERED (document 01, "The board"; document 02, P2), for any bytes whatever: each result, and every byte of the output buffer. An entry
+-- takes an image, and gives the image after; between two calls nothing is kept. That each promise settles the answer is shown in Once.antt.
 use mathlib.Core.Path.{_≡_}
 use mathlib.Core.List.{List, _++_}
 use mathlib.Core.Bool.{cond}
@@ -8,17 +8,18 @@ use lib.Dec.{eqb, ltb}
 use lib.ListN.{length, drop}
 use Rattle.rules.specs.Values.{nobody, choiceKind, choiceRuns}
 use Rattle.rules.specs.Model.{Model}
-use Rattle.rules.specs.Rules.{Outcome, outcome, fresh, after, choice}
+use Rattle.rules.specs.Rules.{Outcome, outcome, fresh, after, choice, updated}
 use Rattle.rules.specs.declared.Choice.{Choice}
 use Rattle.rules.specs.declared.Choice.the-variants.{Halt}
 use Rattle.journal.specs.Format.{readAt}
 use Rattle.journal.specs.declared.Read.{Read}
 use Rattle.journal.specs.declared.Read.the-variants.{Record, AtEnd, CutShort, UnknownKind, PastEnd}
 use Rattle.saving.specs.Format.{encode}
-use Rattle.loading.specs.Loads.{Image, Refuses}
+use Rattle.loading.specs.Loads.{Image, Refuses, OldImage, OldRefuses}
 use Rattle.logbook.specs.Log.{limit, Parsed, recordsIn}
 use Rattle.board.specs.declared.Told.{Told}
 use Rattle.board.specs.declared.Brought.{Brought}
+use Rattle.board.specs.declared.Carried.{Carried}
 
 -- the image of m, in front of what the buffer held behind it
 abbrev pub placed : Model → List ℕ → List ℕ
@@ -95,3 +96,20 @@ pub data Brings (image log out : List ℕ) (t : Brought × List ℕ) : Type 0 wh
 -- code, length and the buffer
 abbrev pub freshOn : List ℕ → ℕ × ℕ × List ℕ
 freshOn out = cond (ltb (length out) (length (encode fresh))) (7, 0, out) (0, length (encode fresh), placed fresh out)
+
+-- ---- the update
+
+-- refused: nothing is written, and the choice is this
+abbrev pub uncarried : ℕ → Choice → Carried
+uncarried c x = record { code = c; choice = choiceKind x; next = choiceRuns x; length = 0 }
+
+-- m, the state after the update, saved; 7 with nothing written and the choice of m
+unfoldable pub carriedOn : Model → List ℕ → Carried × List ℕ
+carriedOn m out =
+    cond (ltb (length out) (length (encode m))) (uncarried 7 (choice m), out)
+    (record { code = 0; choice = choiceKind (choice m); next = choiceRuns (choice m); length = length (encode m) }, placed m out)
+
+-- Order: load's refusals, but for the clause that the old rules do not know (the choice is halt, since no state was loaded), 7.
+pub data Carries (image out : List ℕ) (t : Carried × List ℕ) : Type 0 where
+  untaken : (c : ℕ) → OldRefuses image c → t ≡ (uncarried c Halt, out) → Carries image out t
+  took-over : (m : Model) → OldImage m image → t ≡ carriedOn (updated m) out → Carries image out t

@@ -6,7 +6,7 @@ ghost use Rattle.rules.specs.Rules.{outcome};
 ghost use Rattle.nucleus.specs.View.{view, Consists};
 ghost use Rattle.saving.specs.Longest.{longestImage};
 ghost use Rattle.image.specs.Locates.{Locates};
-ghost use Rattle.board.specs.Promise.{declined, acted as actedOn, badCode, stepOn, Boards, unplayed, replayOn, Brings, freshOn};
+ghost use Rattle.board.specs.Promise.{declined, acted as actedOn, badCode, stepOn, Boards, unplayed, replayOn, Brings, freshOn, uncarried, carriedOn, Carries};
 use image::Saved;
 use journal::Read;
 use nucleus::State;
@@ -31,6 +31,14 @@ pub struct Brought {
     pub next: u8,
     pub records: u32,
     pub bytes: u32,
+    pub length: u16,
+}
+
+// What an update comes to: code, choice and next, and the new image's length.
+pub struct Carried {
+    pub code: u8,
+    pub choice: u8,
+    pub next: u8,
     pub length: u16,
 }
 
@@ -226,6 +234,65 @@ pub extern "C" fn rumqatiss_replay(
     *next = t.next;
     *records = t.records;
     *bytes = t.bytes;
+    *size = t.length;
+    t.code
+}
+
+fn uncarry(code: u8, x: Choice) -> Carried
+    ensures { λ r. ⌜ r ≡ uncarried code x ⌝ }
+{
+    Carried {
+        code: code,
+        choice: x.kind(),
+        next: x.runs().0,
+        length: 0,
+    }
+}
+
+// The state after the update is saved into the board's buffer.
+fn carry_to(s: State, out: &mut [u8]) -> Carried
+    requires { ⌜ Consists s ⌝ }
+    ensures { λ r. ⌜ (r, now (out .exit)) ≡ carriedOn (view s) (now (out .entry)) ⌝ }
+{
+    let x = s.choose();
+    let saved = image::keep(s, out);
+    if saved.code != codes::DONE {
+        return uncarry(codes::SHORT, x);
+    }
+    Carried {
+        code: codes::DONE,
+        choice: x.kind(),
+        next: x.runs().0,
+        length: narrow(saved.length),
+    }
+}
+
+fn carry(image: &[u8], out: &mut [u8]) -> Carried
+    ensures { λ r. ⌜ Carries (now (image .entry)) (now (out .entry)) (r, now (out .exit)) ⌝ }
+{
+    let from = image::update(image);
+    if from.code != codes::DONE {
+        return uncarry(from.code, Choice::Halt);
+    }
+    let s = from.state;
+    carry_to(s, out)
+}
+
+// An image of a build with older rules becomes one of today's. The code is returned.
+#[no_mangle]
+pub extern "C" fn rumqatiss_update(
+    image: &[u8],
+    out: &mut [u8],
+    choice: &mut u8,
+    next: &mut u8,
+    size: &mut u16,
+) -> u8
+    ensures { λ r. ⌜ Carries (now (image .entry)) (now (out .entry))
+        (record { code = r; choice = now (choice .exit); next = now (next .exit); length = now (size .exit) }, now (out .exit)) ⌝ }
+{
+    let t = carry(image, out);
+    *choice = t.choice;
+    *next = t.next;
     *size = t.length;
     t.code
 }

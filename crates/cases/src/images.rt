@@ -1,5 +1,7 @@
 // Images that are loaded: those that document 01 counted, which are of edition 1, and some that are refused. What is saved is of edition 2.
 use super::kept;
+use image::Loaded;
+use nucleus::State;
 
 pub fn all() {
     counted();
@@ -37,17 +39,22 @@ fn heads() {
     loaded(b"edition 3", unknown);
 }
 
-// What bytes load as: the code and the choice, and the image that the state has now.
-fn loaded(what: &[u8], image: &[u8]) {
-    let r = image::load(image);
-    let s = r.state;
+// What bytes load as.
+pub fn loaded(what: &[u8], image: &[u8]) {
     console::text(what);
     console::text(b", ");
     console::say(image.len() as u64, b" bytes: ");
     console::hex(image);
-    console::text(b"\n    load: ");
+    came(b"\n    load: ", image::load(image));
+}
+
+// The code and the choice, and the image that the state has now.
+pub fn came(how: &[u8], r: Loaded) -> State {
+    let s = r.state;
+    console::text(how);
     console::say(r.code as u64, b" ");
     console::choice(s.choice());
     console::text(b"\n");
     kept(s);
+    s
 }

@@ -1,5 +1,5 @@
-// Runs the cases of "Loads that were counted" and those of document 02's P1, and every operation on states that are not consistent, and prints what each
-// answers.
+// Runs the cases of "Loads that were counted" and those of document 02's P1 and P2, and every operation on states that are not consistent, and prints what
+// each answers.
 use nucleus::Reply;
 use nucleus::State;
 use rules::Number;
@@ -7,7 +7,9 @@ use rules::Place;
 
 mod devices;
 mod images;
+mod listeners;
 mod mangled;
+mod updates;
 
 const ANY: u8 = rules::NOBODY;
 
@@ -23,6 +25,8 @@ fn main() {
     images::all();
     logs();
     devices::all();
+    listeners::all();
+    updates::all();
     mangled::all();
 }
 
@@ -158,4 +162,11 @@ fn replayed(what: &[u8], log: &[u8]) {
     console::say(r.bytes as u64, b", ");
     console::choice(choice);
     console::text(b"\n");
+}
+
+// The state that a log leaves, from fresh.
+fn after(log: &[u8]) -> State {
+    let r = logbook::replay(State::fresh(), log);
+    let s = r.state;
+    s
 }

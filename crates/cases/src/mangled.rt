@@ -1,6 +1,7 @@
 // States that are not consistent, each by one thing that is wrong in it. Every public operation on states is run on each of them: it is to give 14, or
 // halt, nobody, none, and to leave the state, and the buffer that it was lent, as it was. The same is run on the state that they are made of, which is
 // consistent, so that the output shows that the answers can be others.
+use super::after;
 use super::devices::KEYPAD;
 use super::devices::keypad;
 use lines::Links;
@@ -40,13 +41,14 @@ pub fn all() {
     desks(s);
 }
 
-// Five threads, each at the place of its number: 0 sends 7 to 1, 1 waits for the clock, 2 runs, 3 is ready, and 4 waits at the keypad. (Two slice ends
-// bring 4 to run before that, and 2 behind it.)
+// Six threads, each at the place of its number: 0 sends 7 to 1, 1 waits for the clock, 2 runs, 3 is ready, 4 waits at the keypad, and 5 receives from 1. (Two
+// slice ends bring 4 and 5 to run before that, and 2 and 3 behind them.)
 fn cab() -> State {
-    let log = [1u8, 1, 1, 1, 1, 2, 1, 7, 0, 0, 0, 6, 7, 7, 9, KEYPAD];
-    let r = logbook::replay(State::fresh(), &log);
-    let s = r.state;
-    s
+    let log = [1u8, 1, 1, 1, 1, 1, 2, 1, 7, 0, 0, 0, 6, 7, 7, 9, KEYPAD];
+    let s = after(&log);
+    let r = s.receive(Number(1));
+    let t = r.state;
+    t
 }
 
 // ---- the states
@@ -54,6 +56,10 @@ fn cab() -> State {
 fn threads(s: State) {
     tried(b"two threads, one number", byte(s, table::NUMBER + 3, 2));
     tried(b"a partner that does not live", byte(s, table::PARTNER, 9));
+    tried(
+        b"a receiver that names a dead thread",
+        byte(s, table::PARTNER + 5, 9),
+    );
     tried(b"an answer of code 17", byte(s, table::CODE + 2, 17));
     tried(
         b"an answer of code 16 from nobody",
@@ -130,7 +136,7 @@ fn running(mut s: State, p: Place) -> State {
 }
 
 fn one_more(mut s: State) -> State {
-    s.filled = 63;
+    s.filled = 127;
     s
 }
 

@@ -14,7 +14,7 @@ use Rattle.rules.specs.Rules.{act, refusal, given}
 use Rattle.rules.specs.Consistent.{Fits}
 use Rattle.rules.specs.declared.Event.{Event}
 use Rattle.order.specs.Lives.{livesNow}
-use Rattle.table.specs.Cells.{shown, Whole, standsAt, Stands}
+use Rattle.table.specs.Cells.{shown, Whole, standsAt, StandsBy, Stands}
 use Rattle.table.specs.Rows.{thread-at}
 use Rattle.table.specs.declared.Desk.{Desk}
 use Rattle.verbs.specs.Steps.{Turns}
@@ -53,8 +53,8 @@ no-word = word-fits (omega arith)
 pub lives-shown : (d : Desk) (b w l : List ℕ) (p : ℕ) → p < places → livesAt (shown d b w l) p ≡ standsAt b p
 lives-shown d b w l p h = ap (λ (t : Thread). not (eqb (t .standing) Empty)) (thread-at (d .last .0) (d .running .0) b w l p h)
 
-pub filled-lives : {d : Desk} {b w l : List ℕ} → Stands d b w l → d .filled ≡ wordOf places (livesAt (shown d b w l))
-filled-lives {d} {b} {w} {l} k = k .filled ∙ word-ext places (standsAt b) (livesAt (shown d b w l)) (λ p h. sym (lives-shown d b w l p h))
+pub filled-lives : {strict : Bool} {d : Desk} {b w l : List ℕ} → StandsBy strict d b w l → d .filled ≡ wordOf places (livesAt (shown d b w l))
+filled-lives {d = d} {b} {w} {l} k = k .filled ∙ word-ext places (standsAt b) (livesAt (shown d b w l)) (λ p h. sym (lives-shown d b w l p h))
 
 -- ---- refused, or done
 

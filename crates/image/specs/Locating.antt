@@ -124,7 +124,7 @@ module _ {s : List ℕ} {n o l p k : ℕ} (F : Spotted s n o l) (G : Spotted s n
       let e = model-same in
       let a : thread (G .m) (F .place) .standing ≢ Empty = rw e at (lives-at (F .m) (F .place) (spotted-lives F)) in
       let v : thread (G .m) (F .place) .number ≡ n = rw e at (F .number) in
-      G .image .consistent .differ (F .place) (G .place) a (lives-at (G .m) (G .place) (spotted-lives G)) (v ∙ sym (G .number))
+      G .image .consistent .old .differ (F .place) (G .place) a (lives-at (G .m) (G .place) (spotted-lives G)) (v ∙ sym (G .number))
 
   before-same : F .before ≡ G .before
   before-same =

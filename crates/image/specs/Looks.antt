@@ -54,7 +54,7 @@ module _ {s : List ℕ} {n : ℕ} {a b : List ℕ} where
       let e : F .m ≡ G .m = image-one (F .row, F .image) (G .row, G .image) in
       let l : thread (G .m) (F .place) .standing ≢ Empty = rw e at (lives-at (F .m) (F .place) (F .lives)) in
       let v : thread (G .m) (F .place) .number ≡ n = rw e at (F .number) in
-      let p : F .place ≡ G .place = G .image .consistent .differ (F .place) (G .place) l (lives-at (G .m) (G .place) (G .lives)) (v ∙ sym (G .number)) in
+      let p : F .place ≡ G .place = G .image .consistent .old .differ (F .place) (G .place) l (lives-at (G .m) (G .place) (G .lives)) (v ∙ sym (G .number)) in
       F .body ∙ ap₂ bodyOf e p ∙ sym (G .body)
 
 found-not : {X : Type 0} {s : List ℕ} {n : ℕ} {a : List ℕ} → Found s n a → Absent s n → X

@@ -1,5 +1,5 @@
-// The image of a state, for whoever uses it: saved into a lent buffer (`saving`), loaded from any bytes (`loading`), and, here, a thread's part of it looked
-// up by number.
+// The image of a state, for whoever uses it: saved into a lent buffer (`saving`), loaded from any bytes (`loading`), loaded from a build with the old rules
+// (`updating`), and, here, a thread's part of it looked up by number.
 ghost use denote.Ref.{ptr};
 ghost use Rattle.image.specs.Locates.{Locates};
 ghost use Rattle.image.specs.Sees.{Sees, Lies};
@@ -13,6 +13,7 @@ pub use saving::LONGEST;
 pub use saving::Saved;
 pub use saving::keep;
 pub use saving::save;
+pub use updating::update;
 
 // Where a thread's body stands in an image, with code 0. With load's own code where load refuses the image, or 4 where the number is not live in it, there is
 // no body, and offset and length are 0.

@@ -12,12 +12,12 @@ use lib.ListN.{getD}
 use Rattle.lists.specs.Lists.{none}
 use Rattle.filled.specs.Filled.{wordOf, excluding}
 use Rattle.rules.specs.Model.{places, devices, lastNumber, Empty, Sending, Thread, vacant, Model, inbox, allPlaces, thread, line, livesAt}
-use Rattle.rules.specs.Rules.{placeOf, put, outOfLine, handedBack, letGo, end, refusal}
+use Rattle.rules.specs.Rules.{placeOf, put, outOfLine, handedBack, letGo, awaiting, listening, end, refusal}
 use Rattle.rules.specs.declared.Number.{Number}
 use Rattle.rules.specs.declared.Event.the-variants.{End}
 use Rattle.order.specs.Sound.{Sound, small, at-index}
 use Rattle.order.specs.Places.{placed, live-placed}
-use Rattle.order.specs.HandBack.{Handed, hands, lets}
+use Rattle.order.specs.HandBack.{Handed, hands, lets, awaiting-fair, listening-fair}
 use Rattle.order.specs.End.{endLast}
 use Rattle.order.specs.Order.{written}
 use Rattle.table.specs.Cells.{cell, threadOf, shown, Stands, inboxLines, inbox-line}
@@ -32,7 +32,7 @@ use Rattle.verbs.specs.Caller.{sounds}
 use Rattle.verbs.specs.Find.{found, found-is}
 use Rattle.life.specs.Drain.{drains}
 use Rattle.life.specs.HandBack.{backs, handed-drained}
-use Rattle.life.specs.LetGo.{SoundOn, letFrom}
+use Rattle.life.specs.LetGo.{SoundOn, letFrom, let-all}
 use Rattle.life.specs.Leave.{Served, Leaves}
 
 -- number n, which lives at p, ends
@@ -40,10 +40,6 @@ pub record EndsAt (d : Desk) (b w l : List ℕ) (n p : ℕ) : Type 0 where
   pub stands : Stands d b w l
   pub at : placeOf (shown d b w l) n ≡ p
   pub known : p ≡ none → ⊥
-
-let-all : (n : ℕ) (m : Model) → letFrom n 0 places m ≡ letGo n allPlaces m
-unfolding letFrom allPlaces
-let-all n m = refl
 
 module _ {d : Desk} {b w l : List ℕ} {n p : ℕ} (k : EndsAt d b w l n p) where
   lived : (thread (shown d b w l) p .standing ≢ Empty) × (thread (shown d b w l) p .number ≡ n)
@@ -69,41 +65,53 @@ module _ {d : Desk} {b w l : List ℕ} {n p : ℕ} (k : EndsAt d b w l n p) wher
     end-lies = record { last = d .last .0; running = d .running .0; whole = s .whole; sound = handed .step .kept .sound }
 
     -- and so have those who await a reply
-    module _ {b₂ w₂ l₂ : List ℕ} (t : Steps b₁ w₁ l₁ b₂ w₂ l₂ (letFrom n 0 places)) where
-      let-seen : shown d b₂ w₂ l₂ ≡ letGo n allPlaces (shown d b₁ w₁ l₁)
-      let-seen = t .seen (d .last .0) (d .running .0) ∙ let-all n (shown d b₁ w₁ l₁)
+    module _ {b₂ w₂ l₂ : List ℕ} (t : Steps b₁ w₁ l₁ b₂ w₂ l₂ (letFrom (awaiting n) 0 places)) where
+      let-seen : shown d b₂ w₂ l₂ ≡ letGo (awaiting n) allPlaces (shown d b₁ w₁ l₁)
+      let-seen = t .seen (d .last .0) (d .running .0) ∙ let-all (awaiting n) (shown d b₁ w₁ l₁)
 
-      later : Sound (shown d b₂ w₂ l₂)
-      later = subst Sound (sym let-seen) (lets allPlaces (shown d b₁ w₁ l₁) (handed .step .kept .sound) n end-low .step .kept .sound)
+      let-sound : Sound (shown d b₂ w₂ l₂)
+      let-sound = subst Sound (sym let-seen) (lets allPlaces (shown d b₁ w₁ l₁) (handed .step .kept .sound) (awaiting n) (awaiting-fair n end-low) .step .kept .sound)
 
-      pub end-served : Served b₂ p
-      end-served = record {
-        sends = λ e.
-            let three : thread m p .standing ≡ Sending = ap (λ (u : Thread). u .standing) at ∙ e in
-            let v = live-placed m later (thread m p .partner) (later .served p (omega arith) (omega arith)) in
-            let i : placeOf m (thread m p .partner) < places = small m later _ (v .0) in
-            subst (λ (q : ℕ). q < places) (ap (λ (u : Thread). placeOf m (u .partner)) at ∙ found-is (d .last .0) (d .running .0) (getD b₂ (cell 2 p) 0) b₂ w₂ l₂) i;
-        waits = λ e. subst (λ (u : Thread). u .partner < devices) at (at-index m later p (ap (λ (u : Thread). u .standing) at ∙ e));
-      }
-        where
-          m : Model
-          m = shown d b₂ w₂ l₂
+      pub let-lies : SoundOn b₂ w₂ l₂
+      let-lies = record { last = d .last .0; running = d .running .0; whole = t .whole; sound = let-sound }
 
-          at : thread m p ≡ threadOf b₂ w₂ p
-          at = thread-at (d .last .0) (d .running .0) b₂ w₂ l₂ p end-place
+      -- and those who receive from it have been told
+      module _ {b₃ w₃ l₃ : List ℕ} (r : Steps b₂ w₂ l₂ b₃ w₃ l₃ (letFrom (listening n) 0 places)) where
+        told-seen : shown d b₃ w₃ l₃ ≡ letGo (listening n) allPlaces (shown d b₂ w₂ l₂)
+        told-seen = r .seen (d .last .0) (d .running .0) ∙ let-all (listening n) (shown d b₂ w₂ l₂)
 
-      -- it leaves its line, and its place is cleaned
-      pub ended : {e : Desk} {l₃ b₃ w₃ : List ℕ} → Leaves d b₂ l₂ p e l₃ → Stored b₂ w₂ p emptied b₃ w₃ → Turns d b w l e b₃ w₃ l₃ (end n)
-      ended {e} {l₃} u v =
-          let m = shown d b w l in
-          let x = u w₂ (t .whole) in
-          let y = wrote (x .whole) end-place v in
-          record {
-            whole = y .whole;
-            filled = x .filled;
-            seen = y .seen (e .last .0) (e .running .0) ∙ ap (put p vacant) (x .seen ∙ ap (outOfLine p) (let-seen ∙ ap (letGo n allPlaces) back-seen))
-                ∙ sym (written m (sounds (k .stands)) n (λ z. k .known (sym (k .at) ∙ z)) ∙ ap (λ (q : ℕ). endLast q n m) (k .at));
-          }
+        later : Sound (shown d b₃ w₃ l₃)
+        later = subst Sound (sym told-seen) (lets allPlaces (shown d b₂ w₂ l₂) let-sound (listening n) (listening-fair n end-low) .step .kept .sound)
+
+        pub end-served : Served b₃ p
+        end-served = record {
+          sends = λ e.
+              let three : thread m p .standing ≡ Sending = ap (λ (u : Thread). u .standing) at ∙ e in
+              let v = live-placed m later (thread m p .partner) (later .served p (omega arith) (omega arith)) in
+              let i : placeOf m (thread m p .partner) < places = small m later _ (v .0) in
+              subst (λ (q : ℕ). q < places) (ap (λ (u : Thread). placeOf m (u .partner)) at ∙ found-is (d .last .0) (d .running .0) (getD b₃ (cell 2 p) 0) b₃ w₃ l₃) i;
+          waits = λ e. subst (λ (u : Thread). u .partner < devices) at (at-index m later p (ap (λ (u : Thread). u .standing) at ∙ e));
+        }
+          where
+            m : Model
+            m = shown d b₃ w₃ l₃
+
+            at : thread m p ≡ threadOf b₃ w₃ p
+            at = thread-at (d .last .0) (d .running .0) b₃ w₃ l₃ p end-place
+
+        -- it leaves its line, and its place is cleaned
+        pub ended : {e : Desk} {l₄ b₄ w₄ : List ℕ} → Leaves d b₃ l₃ p e l₄ → Stored b₃ w₃ p emptied b₄ w₄ → Turns d b w l e b₄ w₄ l₄ (end n)
+        ended {e} {l₄} u v =
+            let m = shown d b w l in
+            let x = u w₃ (r .whole) in
+            let y = wrote (x .whole) end-place v in
+            record {
+              whole = y .whole;
+              filled = x .filled;
+              seen = y .seen (e .last .0) (e .running .0)
+                  ∙ ap (put p vacant) (x .seen ∙ ap (outOfLine p) (told-seen ∙ ap (letGo (listening n) allPlaces) (let-seen ∙ ap (letGo (awaiting n) allPlaces) back-seen)))
+                  ∙ sym (written m (sounds (k .stands)) n (λ z. k .known (sym (k .at) ∙ z)) ∙ ap (λ (q : ℕ). endLast q n m) (k .at));
+            }
 
 -- ---- the event
 

@@ -3,7 +3,7 @@ ghost use mathlib.Core.Path.{_≡_};
 ghost use Prim.Native.Nat.{_<_, _≤_};
 ghost use Rattle.lines.specs.Lines.{lineOf, Loose, Tidy};
 ghost use Rattle.rules.specs.Model.{places, lineCount, lastNumber};
-ghost use Rattle.rules.specs.Rules.{end};
+ghost use Rattle.rules.specs.Rules.{awaiting, listening, end};
 ghost use Rattle.rules.specs.declared.Event.the-variants.{End};
 ghost use Rattle.order.specs.HandBack.{let-step};
 ghost use Rattle.table.specs.Cells.{Whole, Stands};
@@ -61,8 +61,8 @@ fn hand_all_back(b: &mut Blocks, w: &mut Words, l: &mut Links, n: Number, q: u8)
 
 // The thread at p gets its own word back if it awaits a reply of the number n, which ends. Nothing changes if it does not.
 fn let_one(b: &mut Blocks, w: &mut Words, l: &mut Links, n: Number, p: Place)
-    requires { ⌜ SoundOn (now b) (now w) (now l) × (p .0 < places) ⌝ }
-    ensures { λ r. ⌜ Steps (now (b .entry)) (now (w .entry)) (now (l .entry)) (now (b .exit)) (now (w .exit)) (now (l .exit)) (let-step (n .0) (p .0)) ⌝ }
+    requires { ⌜ SoundOn (now b) (now w) (now l) × (n .0 ≤ lastNumber) × (p .0 < places) ⌝ }
+    ensures { λ r. ⌜ Steps (now (b .entry)) (now (w .entry)) (now (l .entry)) (now (b .exit)) (now (w .exit)) (now (l .exit)) (let-step (awaiting (n .0)) (p .0)) ⌝ }
 {
     if !table::awaits(b, p, n) {
         return;
@@ -73,11 +73,37 @@ fn let_one(b: &mut Blocks, w: &mut Words, l: &mut Links, n: Number, p: Place)
 // All who await a reply of the number n, which ends, get their own word back, by rising place.
 fn let_go(b: &mut Blocks, w: &mut Words, l: &mut Links, n: Number)
     requires { ⌜ SoundOn (now b) (now w) (now l) × (n .0 ≤ lastNumber) ⌝ }
-    ensures { λ r. ⌜ Steps (now (b .entry)) (now (w .entry)) (now (l .entry)) (now (b .exit)) (now (w .exit)) (now (l .exit)) (letFrom (n .0) 0 places) ⌝ }
+    ensures { λ r. ⌜ Steps (now (b .entry)) (now (w .entry)) (now (l .entry)) (now (b .exit)) (now (w .exit)) (now (l .exit)) (letFrom (awaiting (n .0)) 0 places) ⌝ }
 {
     let mut p: u8 = 0;
     while p < lines::PLACES as u8 {
         let_one(b, w, l, n, Place(p));
+        p += 1;
+    }
+}
+
+// The thread at p is told that the number n has ended if it receives from it. Nothing changes if it does not.
+fn wake_listener(b: &mut Blocks, w: &mut Words, l: &mut Links, n: Number, p: Place)
+    requires { ⌜ SoundOn (now b) (now w) (now l) × (n .0 ≤ lastNumber) × (p .0 < places) ⌝ }
+    ensures { λ r. ⌜ Steps (now (b .entry)) (now (w .entry)) (now (l .entry)) (now (b .exit)) (now (w .exit)) (now (l .exit)) (let-step (listening (n .0)) (p .0)) ⌝ }
+{
+    if table::standing_of(b, p) != rules::RECEIVING {
+        return;
+    }
+    if table::partner_of(b, p).0 != n.0 {
+        return;
+    }
+    verbs::wake(b, w, l, p, codes::ENDED, n, 0);
+}
+
+// All who receive from the number n, which ends, are told, by rising place.
+fn wake_listeners(b: &mut Blocks, w: &mut Words, l: &mut Links, n: Number)
+    requires { ⌜ SoundOn (now b) (now w) (now l) × (n .0 ≤ lastNumber) ⌝ }
+    ensures { λ r. ⌜ Steps (now (b .entry)) (now (w .entry)) (now (l .entry)) (now (b .exit)) (now (w .exit)) (now (l .exit)) (letFrom (listening (n .0)) 0 places) ⌝ }
+{
+    let mut p: u8 = 0;
+    while p < lines::PLACES as u8 {
+        wake_listener(b, w, l, n, Place(p));
         p += 1;
     }
 }
@@ -129,12 +155,13 @@ fn end_at(b: &mut Blocks, w: &mut Words, l: &mut Links, d: Desk, n: Number, p: P
 {
     hand_all_back(b, w, l, n, table::INBOX_LINES + p.0);
     let_go(b, w, l, n);
+    wake_listeners(b, w, l, n);
     let e = out_of_line(b, l, d, p);
     table::clean(b, w, p);
     e
 }
 
-// 5. The thread with the number n ends: those who wait for it are let go, and its place is empty.
+// 5. The thread with the number n ends: those who wait for it are let go, each group in its turn, and its place is empty.
 pub fn end(b: &mut Blocks, w: &mut Words, l: &mut Links, d: Desk, n: Number) -> Outcome
     requires { ⌜ Stands d (now b) (now w) (now l) ⌝ }
     ensures { λ r. ⌜ Did d (now (b .entry)) (now (w .entry)) (now (l .entry)) (End n) r (now (b .exit)) (now (w .exit)) (now (l .exit)) ⌝ }

@@ -1,7 +1,7 @@
 -- Entry i of the contents, in the image of a consistent model: whom it names, and what its body says, read off the bytes. Assumes nothing.
 use mathlib.Core.Path.{_≡_, refl, sym, ap, _∙_}
 use mathlib.Core.List.{List, _∷_, _++_}
-use mathlib.Core.Bool.{true, false}
+use mathlib.Core.Bool.{Bool, true, false}
 use Prim.Native.Nat.{ℕ, suc, _+_, _*_, _<_}
 use native.Mathlib.Omega.{arith}
 use lib.ListN.{length, take, drop, getD}
@@ -16,7 +16,7 @@ use Rattle.rules.specs.Model.{places, Model, inbox, thread, line, allPlaces, li
 use Rattle.saving.specs.Format.{headLength, entryLength, inboxLengthAt, bodyLength, livePlaces}
 use Rattle.saving.specs.Longest.{live-length, live-distinct}
 use Rattle.saving.specs.declared.format.Row.{Row}
-use Rattle.loading.specs.Loads.{ImageAs}
+use Rattle.loading.specs.Loads.{ImageAsBy}
 use Rattle.loading.specs.Positions.{offset}
 use Rattle.loading.specs.Reading.{threadIn}
 use Rattle.loading.specs.Finds.{place-is, number-is, offset-is, thread-is, inbox-length, inbox-is}
@@ -28,7 +28,7 @@ live-low m p h =
     (λ t. let k = upFrom-within places 0 p (among-some p (upFrom 0 places) t) in omega arith)
     (λ t. never h (only-not (livesAt m) p (upFrom 0 places) t))
 
-module _ {row : Row} {m : Model} {s : List ℕ} (I : ImageAs row m s) {i : ℕ} (h : i < live m) where
+module _ {strict : Bool} {row : Row} {m : Model} {s : List ℕ} (I : ImageAsBy strict row m s) {i : ℕ} (h : i < live m) where
   abbrev ps : List ℕ
   ps = livePlaces m
 
@@ -77,7 +77,7 @@ entryAt row i = headLength row + entryLength * i
 abbrev pub bodyAt : Row → List ℕ → ℕ → ℕ
 bodyAt row s i = twoAt s (entryAt row i + 2)
 
-module _ {row : Row} {m : Model} {s : List ℕ} (I : ImageAs row m s) {i : ℕ} (h : i < live m) where
+module _ {strict : Bool} {row : Row} {m : Model} {s : List ℕ} (I : ImageAsBy strict row m s) {i : ℕ} (h : i < live m) where
   pub entry-thread : thread m (getD s (entryAt row i) 0) ≡ threadIn s (getD s (entryAt row i + 1) 0) (bodyAt row s i)
   entry-thread = rw (p-is I h, n-is I h, o-is I h) (sym (thread-is I (take i (livePlaces m)) (getD (livePlaces m) i 0) (drop (suc i) (livePlaces m)) (split I h)))
 

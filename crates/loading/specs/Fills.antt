@@ -14,8 +14,8 @@ use Rattle.lists.specs.Tables.{tab-ext, tab-of}
 use Rattle.lines.specs.Lines.{lineOf, Clear}
 use Rattle.rules.specs.Values.{nobody}
 use Rattle.rules.specs.Model.{places, lineCount, Empty, Thread, vacant, Model, inbox, thread, line, livesAt}
-use Rattle.rules.specs.Consistent.{Consistent}
-use Rattle.order.specs.Sound.{sound, sending, sent}
+use Rattle.rules.specs.Consistent.{OldConsistent}
+use Rattle.order.specs.Sound.{old-sound, sending, sent}
 use Rattle.table.specs.Cells.{threadOf, modelOf}
 use Rattle.table.specs.Clean.{Sized, Emptied}
 use Rattle.table.specs.Stores.{Stood, Told, Named, Stored, wrote-then, named, stood, heard}
@@ -66,7 +66,7 @@ seats-more {m} {qs} {p = p} S W e = record {
 
 -- ---- all of them
 
-module _ {m : Model} (C : Consistent m) where
+module _ {m : Model} (C : OldConsistent m) where
   -- nobody sends to an empty place
   pub no-inbox : (p : ℕ) → thread m p .standing ≡ Empty → line m (inbox p) ≡ []
   no-inbox p e = go (line m (inbox p)) refl
@@ -74,7 +74,7 @@ module _ {m : Model} (C : Consistent m) where
       go : (xs : List ℕ) → line m (inbox p) ≡ xs → line m (inbox p) ≡ []
       go [] z = z
       go (x ∷ xs) z =
-          let S = sound m C in
+          let S = old-sound m C in
           let k = count-self x xs in
           let c : 1 ≤ count x (line m (inbox p)) = rw z (omega arith) in
           let st = sending m S p x c in

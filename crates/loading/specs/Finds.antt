@@ -1,18 +1,20 @@
 -- What is found in the image of a consistent model: the head, the queues, and with each live place its entry and its body. Assumes nothing.
 use mathlib.Core.Path.{_≡_, refl, sym, ap, ap₂, _∙_}
 use mathlib.Core.List.{List, _∷_, _++_, append-assoc}
+use mathlib.Core.Bool.{Bool}
 use Prim.Native.Nat.{ℕ, zero, suc, _+_, _*_, _^_, _≤_, _<_}
 use native.Mathlib.Omega.{arith}
 use lib.ListN.{length, take, drop, getD, length-append, length-drop}
 use lib.Seq.{drop-drop, drop-at, getD-drop, take-at}
 use Rattle.lists.specs.Bytes.{twoBytes, twoAt, wordAt, two-back, word-back}
 use Rattle.rules.specs.Model.{Model, inbox, thread, line, live}
+use Rattle.order.specs.Sound.{old-of}
 use Rattle.saving.specs.Format.{rowOf, lengthsAt, totalAt, headLength, entryLength, inboxLengthAt, bodyLength, livePlaces, bodyOf, bodies, joined, queueLengths, tail, head, encodeAs}
 use Rattle.saving.specs.Editions.{known-few, known-row}
 use Rattle.saving.specs.Queues.{queuesFrom, queues-start, queues-step, lengths-length, length-found}
 use Rattle.saving.specs.Longest.{encode-length, longest-as}
 use Rattle.saving.specs.declared.format.Row.{Row}
-use Rattle.loading.specs.Loads.{rowAt, ImageAs}
+use Rattle.loading.specs.Loads.{rowAt, ImageAsBy}
 use Rattle.loading.specs.Positions.{offset, behind, lengths-at, queues-at, entry-at, body-at}
 use Rattle.loading.specs.Reading.{threadIn, queueAt}
 
@@ -40,7 +42,7 @@ module _ (s : List ℕ) (a : ℕ) {xs : List ℕ} (e : drop a s ≡ xs) where
   drop-from : (k : ℕ) → drop (a + k) s ≡ drop k xs
   drop-from k = sym (drop-drop k a s) ∙ ap (λ (t : List ℕ). drop k t) e
 
-module _ {row : Row} {m : Model} {s : List ℕ} (I : ImageAs row m s) where
+module _ {strict : Bool} {row : Row} {m : Model} {s : List ℕ} (I : ImageAsBy strict row m s) where
   -- line q, and what is left behind it
   left-here : (q : ℕ) → drop (queueAt row s q) s ≡ joined (line m) (queuesFrom row q) ++ bodies m (livePlaces m) → q < row .queues
       → drop (queueAt row s q) s ≡ line m q ++ (joined (line m) (queuesFrom row (q + 1)) ++ bodies m (livePlaces m))
@@ -51,7 +53,7 @@ module _ {row : Row} {m : Model} {s : List ℕ} (I : ImageAs row m s) where
 
   -- an image's offsets fit into two bytes
   pub short : length s < 2 ^ 16
-  short = let l = longest-as row m (known-few (I .known)) (I .consistent) in let z = ap length (I .bytes) in omega arith
+  short = let l = longest-as row m (known-few (I .known)) (old-of strict (I .consistent)) in let z = ap length (I .bytes) in omega arith
 
   -- ---- the head
 
@@ -141,7 +143,7 @@ module _ {row : Row} {m : Model} {s : List ℕ} (I : ImageAs row m s) where
 
     pub thread-is : threadIn s (thread m p .number) (offset row m qs) ≡ thread m p
     thread-is =
-        let w = I .consistent .words p in
+        let w = old-of strict (I .consistent) .words p in
         rw (byte-first s (offset row m qs) body, byte-from s (offset row m qs) body 1, word-from s (offset row m qs) body 2, byte-from s (offset row m qs) body 6, byte-from s (offset row m qs) body 7, word-from s (offset row m qs) body 8, word-back (thread m p .word) (w .0), word-back (thread m p .answer) (w .1))
 
     pub inbox-length : getD s (offset row m qs + inboxLengthAt) 0 ≡ length (line m (inbox p))

@@ -1,7 +1,7 @@
 -- The format tells consistent models apart: all that a model has can be read off its image. Assumes nothing.
 use mathlib.Core.Path.{_≡_, refl, sym, ap, subst, _∙_}
 use mathlib.Core.List.{List, []}
-use mathlib.Core.Bool.{true}
+use mathlib.Core.Bool.{Bool, true}
 use Prim.Native.Nat.{ℕ, _<_}
 use native.Mathlib.Omega.{arith}
 use lib.Dec.{ltb}
@@ -13,35 +13,39 @@ use Rattle.lists.specs.Lists.{among, tab}
 use Rattle.lists.specs.Laws.{by-test, among-at}
 use Rattle.lists.specs.Tables.{tab-ext, tab-of}
 use Rattle.rules.specs.Model.{places, lineCount, vacant, Model, inbox, thread, line, livesAt, live}
-use Rattle.rules.specs.Consistent.{Consistent}
+use Rattle.rules.specs.Consistent.{OldConsistent, Consistent, ConsistentBy}
+use Rattle.order.specs.Sound.{old-of}
 use Rattle.saving.specs.Format.{Known, newest, Holds, livePlaces, encodeAs, encode}
 use Rattle.saving.specs.Editions.{newest-known, newest-holds}
 use Rattle.saving.specs.Queues.{each-line}
 use Rattle.saving.specs.Longest.{live-length}
 use Rattle.loading.specs.Positions.{live-in}
 use Rattle.saving.specs.declared.format.Row.{Row}
-use Rattle.loading.specs.Loads.{ImageAs, Image}
+use Rattle.loading.specs.Loads.{ImageAsBy, ImageBy}
 use Rattle.loading.specs.Finds.{last-is, running-is, live-is, row-is, queue-found}
 use Rattle.loading.specs.Entry.{p-is, entryAt, entry-thread, entry-inbox}
 use Rattle.loading.specs.Fills.{no-inbox, dead}
 
 -- a live place has an entry
-pub entry-of : {row : Row} {m : Model} {s : List ℕ} → ImageAs row m s → (p : ℕ) → p < places → livesAt m p ≡ true → (i : ℕ) × (i < live m) × (getD s (entryAt row i) 0 ≡ p)
+pub entry-of : {strict : Bool} {row : Row} {m : Model} {s : List ℕ} → ImageAsBy strict row m s → (p : ℕ) → p < places → livesAt m p ≡ true → (i : ℕ) × (i < live m) × (getD s (entryAt row i) 0 ≡ p)
 entry-of {m = m} I p h l =
     let w = among-at p (livePlaces m) (live-in m p h ∙ l) in
     let v = live-length m in
     let b : w .0 < live m = omega (arith, w .1) in
     (w .0, b, p-is I b ∙ w .2)
 
-module _ {row : Row} {m : Model} {s : List ℕ} (I : ImageAs row m s) where
+module _ {strict : Bool} {row : Row} {m : Model} {s : List ℕ} (I : ImageAsBy strict row m s) where
+  abbrev consistent-in : OldConsistent m
+  consistent-in = old-of strict (I .consistent)
+
   whole-threads : tab places (thread m) ≡ m .threads
-  whole-threads = tab-of vacant places (m .threads) (I .consistent .threads)
+  whole-threads = tab-of vacant places (m .threads) (consistent-in .threads)
 
   whole-lines : tab lineCount (line m) ≡ m .lines
-  whole-lines = tab-of [] lineCount (m .lines) (I .consistent .lines)
+  whole-lines = tab-of [] lineCount (m .lines) (consistent-in .lines)
 
 -- two images in one edition
-module _ {row : Row} {m k : Model} {s : List ℕ} (I : ImageAs row m s) (J : ImageAs row k s) where
+module _ {strict : Bool} {row : Row} {m k : Model} {s : List ℕ} (I : ImageAsBy strict row m s) (J : ImageAsBy strict row k s) where
   same-live : live m ≡ live k
   same-live = sym (live-is I) ∙ live-is J
 
@@ -62,7 +66,7 @@ module _ {row : Row} {m k : Model} {s : List ℕ} (I : ImageAs row m s) (J : Ima
       let w = entry-of I p h t in
       let z = same-live in
       ap (thread m) (sym (w .2)) ∙ entry-thread I (w .1) ∙ sym (entry-thread J (omega (arith, w .1))) ∙ ap (thread k) (w .2))
-      (λ t. I .consistent .clean p (dead (I .consistent) p t) ∙ sym (J .consistent .clean p (dead (J .consistent) p (sym (same-lives p h) ∙ t))))
+      (λ t. consistent-in I .clean p (dead (consistent-in I) p t) ∙ sym (consistent-in J .clean p (dead (consistent-in J) p (sym (same-lives p h) ∙ t))))
 
   same-inbox : (p : ℕ) → p < places → line m (inbox p) ≡ line k (inbox p)
   same-inbox p h =
@@ -71,7 +75,7 @@ module _ {row : Row} {m k : Model} {s : List ℕ} (I : ImageAs row m s) (J : Ima
       let w = entry-of I p h t in
       let z = same-live in
       ap (λ (r : ℕ). line m (inbox r)) (sym (w .2)) ∙ entry-inbox I (w .1) ∙ sym (entry-inbox J (omega (arith, w .1))) ∙ ap (λ (r : ℕ). line k (inbox r)) (w .2))
-      (λ t. no-inbox (I .consistent) p (dead (I .consistent) p t) ∙ sym (no-inbox (J .consistent) p (dead (J .consistent) p (sym (same-lives p h) ∙ t))))
+      (λ t. no-inbox (consistent-in I) p (dead (consistent-in I) p t) ∙ sym (no-inbox (consistent-in J) p (dead (consistent-in J) p (sym (same-lives p h) ∙ t))))
 
   -- a queue that the row has is read off the bytes, and any other is empty
   same-queue : (q : ℕ) → q < queueCount → line m q ≡ line k q
@@ -92,13 +96,14 @@ module _ {row : Row} {m k : Model} {s : List ℕ} (I : ImageAs row m s) (J : Ima
       λ i. record { last = ey i; running = ex i; threads = et i; lines = el i }
 
 -- an edition tells apart what it can hold, ..
-pub as-injective : (row : Row) (m k : Model) → Known row → Consistent m → Consistent k → Holds row m → Holds row k → encodeAs row m ≡ encodeAs row k → m ≡ k
-as-injective row m k K C D f g e =
-    same-model (record { known = K; consistent = C; holds = f; bytes = e }) (record { known = K; consistent = D; holds = g; bytes = refl })
+pub as-injective : (strict : Bool) (row : Row) (m k : Model) → Known row → ConsistentBy strict m → ConsistentBy strict k → Holds row m → Holds row k → encodeAs row m ≡ encodeAs row k → m ≡ k
+as-injective strict row m k K C D f g e =
+    let I : ImageAsBy strict row m (encodeAs row k) = record { known = K; consistent = C; holds = f; bytes = e } in
+    same-model I (record { known = K; consistent = D; holds = g; bytes = refl })
 
 -- .. and bytes are an image in one edition, and so of one model
-pub image-one : {m k : Model} {s : List ℕ} → Image m s → Image k s → m ≡ k
-image-one {k = k} {s = s} (row, I) (other, J) = same-model I (subst (λ (r : Row). ImageAs r k s) (row-is J ∙ sym (row-is I)) J)
+pub image-one : {strict : Bool} {m k : Model} {s : List ℕ} → ImageBy strict m s → ImageBy strict k s → m ≡ k
+image-one {strict} {k = k} {s = s} (row, I) (other, J) = same-model I (subst (λ (r : Row). ImageAsBy strict r k s) (row-is J ∙ sym (row-is I)) J)
 
 pub encode-injective : (m k : Model) → Consistent m → Consistent k → encode m ≡ encode k → m ≡ k
-encode-injective m k C D e = as-injective newest m k newest-known C D (newest-holds m) (newest-holds k) e
+encode-injective m k C D e = as-injective true newest m k newest-known C D (newest-holds m) (newest-holds k) e

@@ -15,8 +15,8 @@ use Rattle.lists.specs.Laws.{by-test, never, not-append, is-head, is-right, dis
 use Rattle.lines.specs.Lines.{lineOf, Loose, Tidy, Turned}
 use Rattle.lines.specs.Callers.{loose-kept}
 use Rattle.rules.specs.Model.{places, lineCount, Model, line}
-use Rattle.rules.specs.Consistent.{Consistent}
-use Rattle.order.specs.Sound.{sound}
+use Rattle.rules.specs.Consistent.{OldConsistent}
+use Rattle.order.specs.Sound.{old-sound}
 use Rattle.order.specs.Stood.{stands-at, stands-once, line-distinct}
 use Rattle.loading.specs.Reading.{Free, Joined, Filed}
 
@@ -65,14 +65,14 @@ module _ (s : List ℕ) (from n q : ℕ) where
 
 -- ---- a line of m
 
-module _ {m : Model} (C : Consistent m) {f : ℕ → Bool} {l : List ℕ} (F : Filed m f l) (q : ℕ) (b : q < lineCount) (n : f q ≡ false) where
+module _ {m : Model} (C : OldConsistent m) {f : ℕ → Bool} {l : List ℕ} (F : Filed m f l) (q : ℕ) (b : q < lineCount) (n : f q ≡ false) where
   free-line : Free l (line m q)
   free-line = record {
-    distinct = line-distinct m (sound m C) q;
-    low = λ x h. stands-at m (sound m C) x q h;
+    distinct = line-distinct m (old-sound m C) q;
+    low = λ x h. stands-at m (old-sound m C) x q h;
     loose = λ x h r g.
         by-test (f r)
-        (λ t. let d : r ≢ q = λ e. never t (rw e n) in rw (F .lines r g, t) (stands-once m (sound m C) x q r h d))
+        (λ t. let d : r ≢ q = λ e. never t (rw e n) in rw (F .lines r g, t) (stands-once m (old-sound m C) x q r h d))
         (λ t. rw (F .lines r g, t));
   }
 

@@ -2,7 +2,7 @@
 use mathlib.Core.Path.{_≡_, sym, ap, subst, _∙_}
 use mathlib.Core.Logic.{_≢_}
 use mathlib.Core.List.{List, []}
-use mathlib.Core.Bool.{Bool}
+use mathlib.Core.Bool.{Bool, false}
 use Prim.Native.Nat.{ℕ, _+_, _≤_, _<_}
 use native.Mathlib.Numerals.{add-one}
 use native.Mathlib.Omega.{arith}
@@ -19,14 +19,15 @@ use Rattle.lines.specs.Lines.{lineOf, Tidy}
 use Rattle.lines.specs.Along.{no-place}
 use Rattle.rules.specs.Model.{places, lineCount, Model, line}
 use Rattle.rules.specs.Consistent.{Consistent}
+use Rattle.order.specs.Sound.{old-of}
 use Rattle.table.specs.Rows.{line-at}
-use Rattle.nucleus.specs.View.{view, Consists, Shows}
+use Rattle.nucleus.specs.View.{view, ConsistsBy, ShowsBy}
 use Rattle.nucleus.specs.declared.State.{State}
 use Rattle.saving.specs.Format.{Known, newest, Holds, shortestHead, totalAt, headLength, encodeAs, encode}
 use Rattle.saving.specs.Editions.{known-head, known-of, newest-known, newest-holds}
 use Rattle.saving.specs.Written.{Written}
 use Rattle.saving.specs.declared.format.Row.{Row}
-use Rattle.loading.specs.Loads.{rowAt, headCode, ImageAs, Image, Foreign}
+use Rattle.loading.specs.Loads.{rowAt, headCode, ImageAsBy, ImageBy, Image, ForeignBy}
 use Rattle.loading.specs.Finds.{row-is, length-is, long-enough}
 
 -- ---- the head
@@ -67,13 +68,17 @@ pub saved-image : {m : Model} {s : List ℕ} → Consistent m → encode m ≡ s
 saved-image {m} C e = (newest, record { known = newest-known; consistent = C; holds = newest-holds m; bytes = e })
 
 -- an image has its head in order
-pub head-image : {m : Model} {s : List ℕ} → Image m s → headCode s ≡ 0
-head-image {m} {s} (row, I) =
-    let J : ImageAs (rowAt s) m s = subst (λ (r : Row). ImageAs r m s) (row-is I) I in
+pub head-image : {strict : Bool} {m : Model} {s : List ℕ} → ImageBy strict m s → headCode s ≡ 0
+head-image {strict} {m} {s} (row, I) =
+    let J : ImageAsBy strict (rowAt s) m s = subst (λ (r : Row). ImageAsBy strict r m s) (row-is I) I in
     let a = known-head (J .known) in
     let b = long-enough J in
     let c = J .known .some in
     sym (head-right s (omega arith) (λ z. omega arith) b (length-is J))
+
+-- a state that is consistent is so by the old rules too
+pub old-consists : (strict : Bool) {t : State} → ConsistsBy strict t → ConsistsBy false t
+old-consists strict k = record { whole = k .whole; filled = k .filled; consistent = old-of strict (k .consistent) }
 
 -- ---- two lists of bytes, compared: a, and the first n of c
 
@@ -134,21 +139,21 @@ module _ (row : Row) (s : State) where
 
 -- ---- the candidate, read by the row of byte 0
 
-module _ {row : Row} {s : List ℕ} {t : State} (er : row ≡ rowAt s) (K : (m : Model) → ImageAs row m s → Shows t m) where
+module _ {strict : Bool} {row : Row} {s : List ℕ} {t : State} (er : row ≡ rowAt s) (K : (strict : Bool) (m : Model) → ImageAsBy strict row m s → ShowsBy strict t m) where
   -- it shows whatever the bytes are an image of
-  shows : {m : Model} → Image m s → Shows t m
-  shows {m} (other, I) = K m (subst (λ (r : Row). ImageAs r m s) (row-is I ∙ sym er) I)
+  shows : {m : Model} → ImageBy strict m s → ShowsBy strict t m
+  shows {m} (other, I) = K strict m (subst (λ (r : Row). ImageAsBy strict r m s) (row-is I ∙ sym er) I)
 
-  pub foreign-not : (Consists t → ⊥) → Foreign s
+  pub foreign-not : (ConsistsBy strict t → ⊥) → ForeignBy strict s
   foreign-not n m I = n (shows I .consists)
 
-  pub foreign-full : (Bare (t .lines) (row .queues) queueCount → ⊥) → Foreign s
+  pub foreign-full : (Bare (t .lines) (row .queues) queueCount → ⊥) → ForeignBy strict s
   foreign-full n m (other, I) =
       let e : other ≡ row = row-is I ∙ sym er in
       let z = shows (other, I) .seen in
       n (holds-bare row t (subst (λ (x : Model). Holds row x) (sym z) (subst (λ (r : Row). Holds r m) e (I .holds))))
 
-  pub foreign-other : (encodeAs row (view t) ≡ s → ⊥) → Foreign s
+  pub foreign-other : (encodeAs row (view t) ≡ s → ⊥) → ForeignBy strict s
   foreign-other n m (other, I) =
       let e : other ≡ row = row-is I ∙ sym er in
       let z = shows (other, I) .seen in

@@ -15,7 +15,7 @@ use Rattle.table.specs.Cells.{threadOf}
 use Rattle.table.specs.Clean.{Sized}
 use Rattle.saving.specs.Format.{lengthsAt, headLength, entryLength, livePlaces}
 use Rattle.saving.specs.declared.format.Row.{Row}
-use Rattle.loading.specs.Loads.{ImageAs}
+use Rattle.loading.specs.Loads.{ImageAsBy}
 
 -- ---- places that go into a line
 
@@ -73,13 +73,13 @@ queueAt row s (suc q) = queueAt row s q + getD s (lengthsAt + q) 0
 -- the queues before line q have been read
 pub record QueuesUpto (row : Row) (s : List ℕ) (q at : ℕ) (l l′ : List ℕ) : Type 0 where
   pub from : at ≡ queueAt row s q
-  pub filed : (m : Model) → ImageAs row m s → Clear places lineCount l → Filed m (λ r. ltb r q) l′
+  pub filed : (strict : Bool) (m : Model) → ImageAsBy strict row m s → Clear places lineCount l → Filed m (λ r. ltb r q) l′
 
 -- and all of them
 pub record QueuesRead (row : Row) (s l l′ : List ℕ) : Type 0 where
-  pub filed : (m : Model) → ImageAs row m s → Clear places lineCount l → Filed m (opened []) l′
+  pub filed : (strict : Bool) (m : Model) → ImageAsBy strict row m s → Clear places lineCount l → Filed m (opened []) l′
 
 -- the entries of the contents from i to k have been read
 pub record Entered (row : Row) (s : List ℕ) (i k : ℕ) (b w l b′ w′ l′ : List ℕ) : Type 0 where
   pub sized : Sized b′ w′
-  pub reads : (m : Model) → ImageAs row m s → k < suc (live m) → Upto m (take i (livePlaces m)) b w l → Upto m (take k (livePlaces m)) b′ w′ l′
+  pub reads : (strict : Bool) (m : Model) → ImageAsBy strict row m s → k < suc (live m) → Upto m (take i (livePlaces m)) b w l → Upto m (take k (livePlaces m)) b′ w′ l′

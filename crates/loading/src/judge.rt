@@ -1,14 +1,15 @@
 // Judging: the head is looked at first, in the document's order. Then a candidate is read, tested whether it is consistent and one that the edition can hold,
 // and written again in that edition: the bytes are accepted where that gives them back. So the format is not told a second time.
 ghost use mathlib.Core.Path.{_≡_};
+ghost use mathlib.Core.Bool.{false};
 ghost use Prim.Native.Nat.{_≤_};
 ghost use lib.ListN.{length, take};
 ghost use Rattle.lists.specs.Tells.{Tells};
-ghost use Rattle.nucleus.specs.View.{view, Consists};
+ghost use Rattle.nucleus.specs.View.{view, ConsistsBy};
 ghost use Rattle.lists.specs.Sizes.{places, queueCount, lineCount};
 ghost use Rattle.lines.specs.Lines.{Tidy};
 ghost use Rattle.saving.specs.Format.{encodeAs};
-ghost use Rattle.loading.specs.Loads.{rowAt, headCode, Refused, Judged};
+ghost use Rattle.loading.specs.Loads.{rowAt, headCode, Refused, JudgedBy};
 ghost use Rattle.loading.specs.Judges.{Bare};
 use super::Loaded;
 use super::bytes;
@@ -75,9 +76,9 @@ fn equal(image: &[u8], out: &[u8], n: usize) -> bool
     true
 }
 
-// Are the bytes the image of the consistent state s in the edition of the row?
+// Are the bytes the image of the state s, consistent by the old rules at least, in the edition of the row?
 fn same(row: Row, image: &[u8], s: State) -> bool
-    requires { ⌜ (row .queues ≤ queueCount) × Consists s ⌝ }
+    requires { ⌜ (row .queues ≤ queueCount) × ConsistsBy false s ⌝ }
     ensures { λ r. ⌜ Tells r (encodeAs row (view s) ≡ now (image .entry)) (encodeAs row (view s) ≡ now (image .entry) → ⊥) ⌝ }
 {
     let d = s.desk();
@@ -104,14 +105,25 @@ fn holds(row: Row, l: &Links) -> bool
     true
 }
 
+// Is the state consistent? By the rules as they are, or (strict is false) by the old ones.
+fn consists(strict: bool, s: State) -> bool
+    ensures { λ r. ⌜ Tells r (ConsistsBy strict s) (ConsistsBy strict s → ⊥) ⌝ }
+{
+    let d = s.desk();
+    let b = s.blocks;
+    let w = s.words;
+    let l = s.lines;
+    audit::consistent_by(strict, &b, &w, &l, d)
+}
+
 // Bytes whose head is in order.
-pub fn judge(image: &[u8]) -> Loaded
+pub fn judge(strict: bool, image: &[u8]) -> Loaded
     requires { ⌜ headCode (now image) ≡ 0 ⌝ }
-    ensures { λ r. ⌜ Judged (now (image .entry)) r ⌝ }
+    ensures { λ r. ⌜ JudgedBy strict (now (image .entry)) r ⌝ }
 {
     let row = row_at(image);
     let s = read::candidate(row, image);
-    if !s.consistent() {
+    if !consists(strict, s) {
         return refuse(codes::FOREIGN);
     }
     let l = s.lines;

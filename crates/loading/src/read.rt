@@ -1,13 +1,14 @@
 // Reading: a candidate is made of any bytes, and no byte is trusted. No rule of the format is tested here, for what is read of bytes that are no image
 // does not matter: load finds out.
+ghost use mathlib.Core.Bool.{Bool};
 ghost use Prim.Native.Nat.{_+_, _*_, _^_, _≤_, _<_};
 ghost use Rattle.lists.specs.Sizes.{queueCount};
 ghost use Rattle.table.specs.Clean.{Sized};
 ghost use Rattle.table.specs.Stores.{Stored};
 ghost use Rattle.rules.specs.Model.{places, lineCount, Model};
-ghost use Rattle.nucleus.specs.View.{Shows};
+ghost use Rattle.nucleus.specs.View.{ShowsBy};
 ghost use Rattle.loading.specs.Reading.{Joined, threadIn, QueuesRead, Entered};
-ghost use Rattle.loading.specs.Loads.{ImageAs};
+ghost use Rattle.loading.specs.Loads.{ImageAsBy};
 use super::bytes;
 use lines::Links;
 use nucleus::State;
@@ -92,7 +93,7 @@ fn queues(row: Row, image: &[u8], l: &mut Links)
 // The state of which the bytes may be the image in the edition of the row. If they are the image of any, it is this one's.
 pub fn candidate(row: Row, image: &[u8]) -> State
     requires { ⌜ row .queues ≤ queueCount ⌝ }
-    ensures { λ r. ⌜ ((m : Model) → ImageAs row m (now (image .entry)) → Shows r m) ⌝ }
+    ensures { λ r. ⌜ ((strict : Bool) (m : Model) → ImageAsBy strict row m (now (image .entry)) → ShowsBy strict r m) ⌝ }
 {
     let mut b = [0u8; table::BYTES];
     let mut w = [0u32; table::WORDS];

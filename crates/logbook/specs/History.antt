@@ -11,7 +11,7 @@ use lib.ListN.{length, take, drop, length-append, length-take}
 use lib.Seq.{take-at, take-take, drop-drop}
 use Rattle.lists.specs.Laws.{by-test}
 use Rattle.rules.specs.Model.{Model}
-use Rattle.rules.specs.Rules.{idle, _gives_else_, noNumber, noSource, noDevice, ownNumber, notLive, notAwaiting, full, refusal, outcome, next, after}
+use Rattle.rules.specs.Rules.{idle, _gives_else_, noNumber, noSource, noDevice, ownNumber, notLive, deadSource, notAwaiting, full, refusal, outcome, next, after}
 use Rattle.rules.specs.Consistent.{Fits}
 use Rattle.rules.specs.declared.Event.{Event}
 use Rattle.rules.specs.declared.Event.the-variants.{Create, Send, Receive, Reply, End, WaitClock, SliceEnd, Tick, WaitDevice, Interrupt}
@@ -64,7 +64,9 @@ refusal-low Create m = gives-low (full m) 6 0 (omega arith) (omega arith)
 refusal-low (Send d w) m =
     gives-low (idle m) 1 _ (omega arith)
     (gives-low (noNumber (d .0)) 2 _ (omega arith) (gives-low (ownNumber m (d .0)) 3 _ (omega arith) (gives-low (notLive m (d .0)) 4 0 (omega arith) (omega arith))))
-refusal-low (Receive n) m = gives-low (idle m) 1 _ (omega arith) (gives-low (noSource (n .0)) 2 _ (omega arith) (gives-low (ownNumber m (n .0)) 3 0 (omega arith) (omega arith)))
+refusal-low (Receive n) m =
+    gives-low (idle m) 1 _ (omega arith)
+    (gives-low (noSource (n .0)) 2 _ (omega arith) (gives-low (ownNumber m (n .0)) 3 _ (omega arith) (gives-low (deadSource m (n .0)) 4 0 (omega arith) (omega arith))))
 refusal-low (Reply t w) m =
     gives-low (idle m) 1 _ (omega arith)
     (gives-low (noNumber (t .0)) 2 _ (omega arith)

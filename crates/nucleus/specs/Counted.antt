@@ -7,7 +7,7 @@ use Rattle.lists.specs.Lists.{bit}
 use Rattle.lists.specs.Every.{Every, each, every}
 use Rattle.rules.specs.Model.{Model, lastNumber, thread}
 use Rattle.rules.specs.Rules.{Outcome, outcome, fresh, gave, after}
-use Rattle.rules.specs.Consistent.{belongs, Consistent}
+use Rattle.rules.specs.Consistent.{belongs, OldConsistent, Consistent}
 use Rattle.rules.specs.Counted.{Seen, played, begun, found, one, cases, counted}
 use Rattle.rules.specs.declared.Event.{Event}
 use Rattle.order.specs.Keeps.{fresh-consistent, always}
@@ -49,8 +49,8 @@ counted-code =
 
 -- and every case starts from a consistent model, so that there is a state to begin with (`State::fresh`, or one that load gives: `loads-back` of the image)
 
-gave-consistent : (m : Model) (n : ℕ) → n ≤ lastNumber → Consistent m → Consistent (gave n m)
-gave-consistent m n h C = record {
+gave-old : (m : Model) (n : ℕ) → n ≤ lastNumber → OldConsistent m → OldConsistent (gave n m)
+gave-old m n h C = record {
   threads = C .threads;
   lines = C .lines;
   words = C .words;
@@ -73,12 +73,15 @@ gave-consistent m n h C = record {
     same : (p q : ℕ) → belongs m (thread m p) q ≡ belongs (gave n m) (thread m p) q
     same p q = refl
 
+gave-consistent : (m : Model) (n : ℕ) → n ≤ lastNumber → Consistent m → Consistent (gave n m)
+gave-consistent m n h C = record { old = gave-old m n h (C .old); listens = C .listens }
+
 wrapped : Consistent (gave lastNumber (after one fresh))
 wrapped = gave-consistent (after one fresh) lastNumber (omega arith) (always one fresh fresh-consistent (omega arith, tt))
 
 pub starts : Every (λ c. Consistent (c .start)) cases
 unfolding cases
-starts = (new, (new, (new, (new, (new, (new, (new, (new, (new, (new, (new, (new, (wrapped, (new, (new, (new, (new, (new, (new, (new, (new, (new, (new, (new, (new, (new, (new, (new, (new, tt)))))))))))))))))))))))))))))
+starts = (new, (new, (new, (new, (new, (new, (new, (new, (new, (new, (new, (new, (wrapped, (new, (new, (new, (new, (new, (new, (new, (new, (new, (new, (new, (new, (new, (new, (new, (new, (new, (new, (new, (new, (new, (new, tt)))))))))))))))))))))))))))))))))))
   where
     new : Consistent fresh
     new = fresh-consistent

@@ -20,11 +20,11 @@ use Rattle.table.specs.Cells.{threadOf, modelOf, standsAt, asThread}
 use Rattle.table.specs.declared.Thread.{Thread}
 use Rattle.table.specs.Rows.{same-blocks, same-words, same-lines}
 use Rattle.table.specs.Clean.{Emptied}
-use Rattle.nucleus.specs.View.{view, Consists, Shows, Looked, held, refused}
+use Rattle.nucleus.specs.View.{view, ConsistsBy, ShowsBy, Shows, Looked, held, refused}
 use Rattle.nucleus.specs.declared.State.{State}
 
 -- two consistent states that stand for one model are one state
-pub settled : (s t : State) → Consists s → Consists t → view s ≡ view t → s ≡ t
+pub settled : {strict : Bool} (s t : State) → ConsistsBy strict s → ConsistsBy strict t → view s ≡ view t → s ≡ t
 settled s t a b e =
     let eb = same-blocks (a .whole) (b .whole) e in
     let ew = same-words (a .whole) (b .whole) e in
@@ -35,8 +35,8 @@ settled s t a b e =
     λ i. record { filled = ef i; last = record { 0 = ey i }; running = record { 0 = ex i }; blocks = eb i; words = ew i; lines = el i }
 
 -- and so is what shows a model
-pub shows-one : {s t : State} {m : Model.Model} → Shows s m → Shows t m → s ≡ t
-shows-one {s} {t} a b = settled s t (a .consists) (b .consists) (a .seen ∙ sym (b .seen))
+pub shows-one : {strict : Bool} {s t : State} {m : Model.Model} → ShowsBy strict s m → ShowsBy strict t m → s ≡ t
+shows-one {s = s} {t} a b = settled s t (a .consists) (b .consists) (a .seen ∙ sym (b .seen))
 
 -- so there is one answer to whoever looks
 pub looked-one : {A : Type 0} {s : State} {r t a b : A} → Looked s (r ≡ a) (r ≡ b) → Looked s (t ≡ a) (t ≡ b) → r ≡ t

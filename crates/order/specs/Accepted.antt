@@ -5,12 +5,12 @@ use mathlib.Core.Logic.{_≢_}
 use mathlib.Core.Bool.{Bool, true, false, cond, _||_, or-true}
 use native.Mathlib.Omega.{arith}
 use lib.Dec.{eqb}
-use borrow.Author.Tests.{eqb-true, eqb-false, ltb-true, ltb-false, le-leb, not-true, not-false}
+use borrow.Author.Tests.{eqb-true, eqb-false, ne-eqb, ltb-true, ltb-false, le-leb, not-true, not-false}
 use Rattle.lists.specs.Lists.{none}
 use Rattle.lists.specs.Laws.{by-test, never, and-left, and-right}
 use Rattle.rules.specs.Values.{nobody}
 use Rattle.rules.specs.Model.{devices, lastNumber, Awaiting, Model, thread}
-use Rattle.rules.specs.Rules.{placeOf, idle, mine, emptyPlace, noNumber, noSource, noDevice, ownNumber, notLive, notAwaiting, full, refusal}
+use Rattle.rules.specs.Rules.{placeOf, idle, mine, emptyPlace, noNumber, noSource, noDevice, ownNumber, notLive, deadSource, notAwaiting, full, refusal}
 use Rattle.rules.specs.Consistent.{isNumber}
 use Rattle.rules.specs.declared.Event.{Event}
 use Rattle.rules.specs.declared.Event.the-variants.{Create, Send, Receive, Reply, End, WaitClock, SliceEnd, Tick, WaitDevice, Interrupt}
@@ -19,7 +19,7 @@ use Rattle.order.specs.Places.{not-full}
 abbrev pub Accepted : Event → Model → Type 0
 Accepted Create m = emptyPlace m ≢ none
 Accepted (Send d w) m = (m .running ≢ none) × (placeOf m (d .0) ≢ none) × (d .0 ≢ mine m)
-Accepted (Receive n) m = (m .running ≢ none) × (isNumber (n .0) || eqb (n .0) nobody ≡ true) × (n .0 ≢ mine m)
+Accepted (Receive n) m = (m .running ≢ none) × (isNumber (n .0) || eqb (n .0) nobody ≡ true) × (n .0 ≢ mine m) × (n .0 ≢ nobody → placeOf m (n .0) ≢ none)
 Accepted (Reply t w) m =
     (m .running ≢ none) × (placeOf m (t .0) ≢ none) × (t .0 ≢ mine m) × (thread m (placeOf m (t .0)) .standing ≡ Awaiting) × (thread m (placeOf m (t .0)) .partner ≡ mine m)
 Accepted (End t) m = placeOf m (t .0) ≢ none
@@ -55,8 +55,9 @@ accepted (Send d w) m z =
 accepted (Receive n) m z =
     let a = passed (idle m) 0 _ z in
     let b = passed (noSource (n .0)) 1 _ (a .1) in
-    let c = passed (ownNumber m (n .0)) 2 0 (b .1) in
-    (eqb-false _ _ (a .0), source (n .0) (b .0), eqb-false _ _ (c .0))
+    let c = passed (ownNumber m (n .0)) 2 _ (b .1) in
+    let u = passed (deadSource m (n .0)) 3 0 (c .1) in
+    (eqb-false _ _ (a .0), source (n .0) (b .0), eqb-false _ _ (c .0), λ k. live-found m (n .0) (rw (ne-eqb (n .0) nobody k) at (u .0)))
 accepted (Reply t w) m z =
     let a = passed (idle m) 0 _ z in
     let b = passed (noNumber (t .0)) 1 _ (a .1) in

@@ -3,7 +3,7 @@
 use mathlib.Core.Path.{_≡_}
 use Rattle.rules.specs.Model.{vacant, Model}
 use Rattle.rules.specs.Rules.{placeOf, nextNumber, newcomer, emptyPlace, act, refusal}
-use Rattle.rules.specs.Consistent.{Fits}
+use Rattle.rules.specs.Consistent.{Fits, ListensToLive}
 use Rattle.rules.specs.declared.Event.{Event}
 use Rattle.rules.specs.declared.Event.the-variants.{Create, Send, Receive, Reply, End, WaitClock, SliceEnd, Tick, WaitDevice, Interrupt}
 use Rattle.order.specs.Sound.{Sound}
@@ -35,7 +35,7 @@ Done (Interrupt s w) m = Step m (act (Interrupt s w) m)
 done : (e : Event) (m : Model) → Sound m → Fits e → Accepted e m → Done e m
 done Create m S f a = creates m S a
 done (Send d w) m S f a = sends m S (a .0) (d .0) w (f .0) (a .1) (a .2)
-done (Receive n) m S f a = receives m S (a .0) (n .0) (a .1) (a .2)
+done (Receive n) m S f a = receives m S (a .0) (n .0) (a .1) (a .2) (a .3)
 done (Reply t w) m S f a = replies m S (a .0) (t .0) w (f .0) (a .3)
 done (End t) m S f a = let at = placed m (t .0) a in rw (written m S (t .0) a) (ends-last m S (placeOf m (t .0)) (t .0) (at .0) (at .1))
 done WaitClock m S f a = rests m S a
@@ -59,3 +59,15 @@ acts-sound SliceEnd m D = D .kept .sound
 acts-sound Tick m D = D .kept .sound
 acts-sound (WaitDevice i) m D = D .kept .sound
 acts-sound (Interrupt s w) m D = D .kept .sound
+
+pub acts-listens : (e : Event) (m : Model) → Done e m → ListensToLive m → ListensToLive (act e m)
+acts-listens Create m D = D .listens
+acts-listens (Send d w) m D = D .kept .listens
+acts-listens (Receive n) m D = D .kept .listens
+acts-listens (Reply t w) m D = D .kept .listens
+acts-listens (End t) m D = D .listens
+acts-listens WaitClock m D = D .kept .listens
+acts-listens SliceEnd m D = D .kept .listens
+acts-listens Tick m D = D .kept .listens
+acts-listens (WaitDevice i) m D = D .kept .listens
+acts-listens (Interrupt s w) m D = D .kept .listens

@@ -1,4 +1,4 @@
--- Nothing ever enters ready except at the back: after any event, ready is what stays of it, in its order, and behind that those who join.
+-- Nothing ever enters ready except at the back: after any event, and after an update, ready is what stays of it, in its order, and behind that those who join.
 use Prim.Native.Nat.{ℕ}
 use mathlib.Core.Path.{_≡_, refl, sym, subst⁻¹}
 use mathlib.Core.List.{List, [], _∷_, _++_}
@@ -14,16 +14,17 @@ use Rattle.lists.specs.Counts.{count-append, none-among, among-some}
 use Rattle.lists.specs.Without.{without-append, without-behind, without-other}
 use Rattle.lists.specs.Tables.{bit-low}
 use Rattle.rules.specs.Model.{Running, Ready, Sending, Waiting, AtDevice, Model, ready, clock, device, inbox, thread, line, allPlaces}
-use Rattle.rules.specs.Rules.{placeOf, leave, outOfLine, idle, starts, dispatched, act, refusal, next}
-use Rattle.rules.specs.Consistent.{belongs, Fits, Consistent}
+use Rattle.rules.specs.Rules.{placeOf, leave, outOfLine, idle, starts, dispatched, act, refusal, next, deserted, updated}
+use Rattle.rules.specs.Consistent.{belongs, Fits, OldConsistent, Consistent}
 use Rattle.rules.specs.declared.Event.{Event}
 use Rattle.rules.specs.declared.Event.the-variants.{Create, Send, Receive, Reply, End, WaitClock, SliceEnd, Tick, WaitDevice, Interrupt}
-use Rattle.order.specs.Sound.{Sound, member, sound}
+use Rattle.order.specs.Sound.{Sound, member, old-sound, sound}
 use Rattle.order.specs.Stood.{line-distinct}
 use Rattle.order.specs.Places.{placed, elsewhere}
 use Rattle.order.specs.Ahead.{same-front}
 use Rattle.order.specs.Moves.{Waits, Step, still}
-use Rattle.order.specs.HandBack.{handed-all}
+use Rattle.order.specs.HandBack.{lets, handed-all}
+use Rattle.order.specs.Update.{deserted-fair}
 use Rattle.order.specs.Order.{written}
 use Rattle.order.specs.Accepted.{Accepted, accepted}
 use Rattle.order.specs.Acts.{Done, does, acts-sound}
@@ -139,7 +140,7 @@ acted (Reply t w) m S A D = steps m _ S D
 acted (End t) m S A D =
     let p = placeOf m (t .0) in
     let at = placed m (t .0) A in
-    let F = handed-all m S (t .0) p allPlaces (at .0) (at .1) .0 in
+    let F = handed-all m S (t .0) p (at .0) (at .1) allPlaces .0 in
     subst⁻¹ (λ (k : Model). Grown (line m ready) (line k ready)) (written m S (t .0) A)
     (grew-out (line m ready) _ (F .kept .sound) p (steps m _ S F))
 acted WaitClock m S A D = steps m _ S D
@@ -162,3 +163,10 @@ back-only e m C f = go (eqb (refusal e m) 0) refl
         let D = does e m S f r in
         grew-dispatched (line m ready) (act e m) (acts-sound e m D) (acted e m S (accepted e m r) D)
     go false z = steps m m S (still m S)
+
+-- an update wakes behind those who are ready, too
+pub update-back-only : (m : Model) → OldConsistent m → Grown (line m ready) (line (updated m) ready)
+update-back-only m C =
+    let S = old-sound m C in
+    let F = lets allPlaces m S (deserted m) (deserted-fair m) .step in
+    grew-dispatched (line m ready) _ (F .kept .sound) (steps m _ S F)

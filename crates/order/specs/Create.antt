@@ -1,11 +1,11 @@
 -- Event 1, create: the lowest empty place takes a thread with a number that nobody has.
 use Prim.Native.Nat.{ℕ, suc, _≤_, _<_}
-use mathlib.Core.Path.{_≡_, refl, sym, _∙_}
+use mathlib.Core.Path.{_≡_, refl, sym, ap, _∙_}
 use mathlib.Core.Logic.{_≢_}
 use native.Mathlib.Omega.{arith}
 use borrow.Author.Tests.{eqb-true, not-false}
 use Rattle.lists.specs.Lists.{none}
-use Rattle.rules.specs.Model.{places, lastNumber, Empty, Model, ready, thread}
+use Rattle.rules.specs.Model.{places, lastNumber, Empty, Thread, Model, ready, thread}
 use Rattle.rules.specs.Rules.{placeOf, inUse, nextNumber, newcomer, emptyPlace, createAt, create}
 use Rattle.order.specs.Sound.{Sound, numbered}
 use Rattle.order.specs.Belongs.{in-none, in-ready}
@@ -38,6 +38,7 @@ filled m S p n h zero-p low free = changed m p (newcomer n) n (m .running) _ S (
       let w : thread m (v .0) .number ≤ lastNumber = S .fits (v .0) .number (v .1) in
       let e = v .2 in
       ((λ z. numbered (S .fits p) (omega arith) zero-p), λ z. unused m S n free (v .0) (v .1) (e ∙ z));
+  unnamed = λ s k five named e. named (e ∙ ap (λ (t : Thread). t .number) (S .fits p .clean zero-p));
 })
 
 -- the number that create gives is a number, and is not in use

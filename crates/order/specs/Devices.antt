@@ -47,6 +47,7 @@ attends m S busy i low =
       served = λ a b. absurd (omega arith);
       hearing = λ s a b. refl;
       heard = λ r a b. absurd (omega arith);
+      listens = λ five _. absurd (omega arith);
     }) (omega arith)
 
 -- ---- 10

@@ -1,20 +1,22 @@
 -- After any accepted event, if nobody runs and ready is not empty, its front runs: this ends every event, and makes it consistent.
 use Prim.Native.Nat.{ℕ, _<_}
-use mathlib.Core.Path.{_≡_, refl}
+use mathlib.Core.Path.{_≡_, refl, ap, _∙_}
 use mathlib.Core.Logic.{_≢_}
 use mathlib.Core.List.{List, [], _∷_}
 use mathlib.Core.Bool.{Bool, true, false, cond}
 use native.Mathlib.Omega.{arith}
+use lib.Seq.{getD-set-other}
 use borrow.Author.Tests.{eqb-true, eqb-false}
 use Rattle.lists.specs.Lists.{none}
+use Rattle.lists.specs.Laws.{by-test}
 use Rattle.rules.specs.Values.{nobody}
 use Rattle.rules.specs.Model.{places, Empty, Running, Ready, Model, ready, thread, line}
 use Rattle.rules.specs.Rules.{idle, stands, starts, dispatched}
-use Rattle.rules.specs.Consistent.{Consistent}
+use Rattle.rules.specs.Consistent.{ListensToLive, Consistent}
 use Rattle.order.specs.Sound.{Sound, small, front-belongs, whole}
 use Rattle.order.specs.Belongs.{in-none, in-ready}
 use Rattle.order.specs.Lines.{drops-front, leaves}
-use Rattle.order.specs.Moves.{Kept, moved, starting, still}
+use Rattle.order.specs.Moves.{beside, Kept, moved, starting, still}
 use Rattle.order.specs.Standings.{plain, as-told}
 
 -- if none runs, the ready queue is empty
@@ -48,5 +50,21 @@ both m S = go (idle m) refl
 pub dispatch-kept : (m : Model) → Sound m → Kept m (dispatched m)
 dispatch-kept m S = both m S .0
 
-pub dispatch : (m : Model) → Sound m → Consistent (dispatched m)
-dispatch m S = whole (dispatched m) (both m S .0 .sound) (both m S .1)
+pub dispatch : (m : Model) → Sound m → ListensToLive m → Consistent (dispatched m)
+dispatch m S L = whole (dispatched m) (both m S .0 .sound) (both m S .1) (both m S .0 .listens L)
+
+-- whoever was not ready stays as it is, and so does every other line
+module _ (m : Model) where
+  start-others : (l : List ℕ) → Sound m → line m ready ≡ l → (s : ℕ) → thread m s .standing ≢ Ready → thread (starts l m) s ≡ thread m s
+  start-others [] S e s n = refl
+  start-others (p ∷ l) S e s n = beside m p s _ (λ z. n (ap (λ (r : ℕ). thread m r .standing) z ∙ eqb-true _ _ (front-belongs m S p ready l e)))
+
+  pub dispatch-others : Sound m → (s : ℕ) → thread m s .standing ≢ Ready → thread (dispatched m) s ≡ thread m s
+  dispatch-others S s n = by-test (idle m) (λ t. rw t (start-others (line m ready) S refl s n)) (λ t. rw t)
+
+  start-lines : (l : List ℕ) (q : ℕ) → q ≢ ready → line (starts l m) q ≡ line m q
+  start-lines [] q n = refl
+  start-lines (p ∷ l) q n = getD-set-other (m .lines) ready q l [] n
+
+  pub dispatch-lines : (q : ℕ) → q ≢ ready → line (dispatched m) q ≡ line m q
+  dispatch-lines q n = by-test (idle m) (λ t. rw t (start-lines (line m ready) q n)) (λ t. rw t)

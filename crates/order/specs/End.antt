@@ -10,17 +10,17 @@ use native.Mathlib.Omega.{arith}
 use lib.Dec.{eqb}
 use borrow.Author.Tests.{eq-eqb, ne-eqb}
 use Rattle.lists.specs.Lists.{none, bit, count}
-use Rattle.rules.specs.Model.{places, devices, lastNumber, lineCount, Empty, Running, Ready, Sending, Awaiting, Waiting, AtDevice, Thread, vacant, Model, ready, clock, device, inbox, thread, line, allPlaces}
-use Rattle.rules.specs.Rules.{placeOf, put, leave, outOfLine, handedBack, letGo}
+use Rattle.rules.specs.Model.{places, devices, lastNumber, lineCount, Empty, Running, Ready, Sending, Awaiting, Receiving, Waiting, AtDevice, Thread, vacant, Model, ready, clock, device, inbox, thread, line, allPlaces}
+use Rattle.rules.specs.Rules.{placeOf, put, leave, outOfLine, handedBack, letGo, awaiting, listening}
 use Rattle.rules.specs.Consistent.{belongs}
 use Rattle.order.specs.ByLine.{at-inbox}
 use Rattle.order.specs.Sound.{Fit, Sound, small, at-index}
 use Rattle.order.specs.Belongs.{in-none, in-ready, in-clock, in-device, in-inbox}
 use Rattle.order.specs.Places.{live-placed, every-place}
 use Rattle.order.specs.Lines.{Shift, stays, leaves, drops-without}
-use Rattle.order.specs.Moves.{anew, then, RunsThen, stopping, aside}
+use Rattle.order.specs.Moves.{anew, Step, RunsThen, stopping, aside}
 use Rattle.order.specs.Fill.{Swap, changed, after-step}
-use Rattle.order.specs.HandBack.{Handed, hands, Let, lets}
+use Rattle.order.specs.HandBack.{Handed, hands, Let, lets, awaiting-fair, listening-fair, handed-all}
 
 -- ---- the place r is cleaned: nobody has it for a partner any more
 
@@ -35,7 +35,7 @@ fit-vacant = record {
 }
 
 module _ (m : Model) (S : Sound m) (r : ℕ) (live : thread m r .standing ≢ Empty)
-    (free : (s : ℕ) → Sending ≤ thread m s .standing → thread m s .standing ≤ Awaiting → thread m s .partner ≢ thread m r .number) where
+    (free : (s : ℕ) → Sending ≤ thread m s .standing → thread m s .standing ≤ Receiving → thread m s .partner ≢ thread m r .number) where
   vacant-nowhere : (q : ℕ) → belongs m vacant q ≡ false
   vacant-nowhere = in-none m vacant (omega arith)
 
@@ -53,7 +53,8 @@ module _ (m : Model) (S : Sound m) (r : ℕ) (live : thread m r .standing ≢ Em
         let v = S .served s i j in
         let w : thread m (v .0) .number ≤ lastNumber = S .fits (v .0) .number (v .1) in
         let e = v .2 in
-        (free s i j, omega arith);
+        (free s i (omega arith), omega arith);
+    unnamed = λ s k five _. free s (omega arith) (omega arith);
   })
 
   leaving : (q : ℕ) → q < lineCount → thread m r .standing ≢ Running → ((k : ℕ) → belongs m (thread m r) k ≡ eqb k q) → Swap m r vacant (put r vacant (leave q r m))
@@ -87,35 +88,49 @@ module _ (m : Model) (S : Sound m) (r : ℕ) (live : thread m r .standing ≢ Em
 -- ---- all of it
 
 abbrev pub endLast : ℕ → ℕ → Model → Model
-endLast p n m = put p vacant (outOfLine p (letGo n allPlaces (handedBack n p (line m (inbox p)) m)))
+endLast p n m = put p vacant (outOfLine p (letGo (listening n) allPlaces (letGo (awaiting n) allPlaces (handedBack n p (line m (inbox p)) m))))
 
--- over any two states on the way, and any list of all places
-finish : (m m₁ m₂ : Model) (n p : ℕ) (l : List ℕ) → Sound m → thread m p .standing ≢ Empty → thread m p .number ≡ n
-    → ((s : ℕ) → s < places → 1 ≤ count s l) → Handed m p m₁ → Let m₁ n l m₂ → Swap m p vacant (put p vacant (outOfLine p m₂))
-finish m m₁ m₂ n p l S live number all H L =
-    let S₁ = H .step .kept .sound in
-    let S₂ = L .step .kept .sound in
-    let partner : thread m₁ p .standing ≡ Awaiting → thread m₁ p .partner ≢ n = rw (H .kept) (λ four e. S .fits p .apart live (omega arith) (e ∙ sym number)) in
-    let kept : thread m₂ p ≡ thread m p = L .past p partner ∙ H .kept in
-    let named : thread m₂ p .number ≡ n = ap (λ (t : Thread). t .number) kept ∙ number in
-    let named₁ : thread m₁ p .number ≡ n = ap (λ (t : Thread). t .number) (H .kept) ∙ number in
-    after-step m m₂ p vacant _ (then m m₁ m₂ (H .step) (L .step)) (cleaned m₂ S₂ p (rw kept live) (λ s i j e.
-    let k : s < places = small m₂ S₂ s (omega arith) in
-    elim (ℕ-discrete (thread m₂ s .standing) Awaiting) [
-      | yes four ↦ let a : count s l ≡ 0 = L .done s four (e ∙ named) in let b : 1 ≤ count s l = all s k in omega arith
-      | no n4 ↦
-          let z : thread m₂ s ≡ thread m₁ s = L .kept s (omega arith) in
-          let three : thread m₂ s .standing ≡ Sending = omega arith in
-          let a : thread m₁ s .standing ≡ Sending = rw z at three in
-          let en : thread m₂ s .partner ≡ n = e ∙ named in
-          let b : thread m₁ s .partner ≡ thread m₁ p .number = (rw z at en) ∙ sym named₁ in
-          let c : count s (line m₁ (inbox p)) ≡ 1 = S₁ .stood s (inbox p) ∙ ap bit (at-inbox m₁ (thread m₁ s) p) ∙ rw (a, b, eq-eqb (thread m₁ p .number) (thread m₁ p .number) refl) in
-          let d : _≡_ {A = ℕ} 0 1 = rw (H .empty) at c in
-          omega arith
-    ]))
+-- over any three states on the way, and any list of all places
+module _ (m m₁ m₂ m₃ : Model) (n p : ℕ) (l : List ℕ) (number : thread m p .number ≡ n) (all : (s : ℕ) → s < places → 1 ≤ count s l)
+    (H : Handed m p m₁) (A : Let m₁ (awaiting n) l m₂) (L : Let m₂ (listening n) l m₃) where
+  -- one that is not ready at last was so from the beginning
+  before : (s : ℕ) → thread m₃ s .standing ≢ Ready → (thread m₃ s ≡ thread m₂ s) × (thread m₂ s ≡ thread m₁ s)
+  before s k = let e = L .kept s k in (e, A .kept s (rw e at k))
+
+  -- nobody waits for n
+  unwaited : (s : ℕ) → Sending ≤ thread m₃ s .standing → thread m₃ s .standing ≤ Receiving → thread m₃ s .partner ≢ n
+  unwaited s i j e =
+      let S₁ = H .step .kept .sound in
+      let b : 1 ≤ count s l = all s (small m₃ (L .step .kept .sound) s (λ z. omega arith)) in
+      let v = before s (λ z. omega arith) in
+      elim (ℕ-discrete (thread m₃ s .standing) Receiving) [
+        | yes five ↦ let a : count s l ≡ 0 = L .done s (rw (five, e, eq-eqb n n refl)) in omega arith
+        | no n5 ↦ elim (ℕ-discrete (thread m₃ s .standing) Awaiting) [
+          | yes four ↦
+              let f : thread m₂ s .standing ≡ Awaiting = rw (v .0) at four in
+              let g : thread m₂ s .partner ≡ n = rw (v .0) at e in
+              let a : count s l ≡ 0 = A .done s (rw (f, g, eq-eqb n n refl)) in
+              omega arith
+          | no n4 ↦
+              let z : thread m₃ s ≡ thread m₁ s = v .0 ∙ v .1 in
+              let three : thread m₃ s .standing ≡ Sending = omega arith in
+              let a : thread m₁ s .standing ≡ Sending = rw z at three in
+              let f : thread m₁ s .partner ≡ thread m₁ p .number = (rw z at e) ∙ sym (ap (λ (t : Thread). t .number) (H .kept) ∙ number) in
+              let c : count s (line m₁ (inbox p)) ≡ 1 = S₁ .stood s (inbox p) ∙ ap bit (at-inbox m₁ (thread m₁ s) p) ∙ rw (a, f, eq-eqb (thread m₁ p .number) (thread m₁ p .number) refl) in
+              let d : _≡_ {A = ℕ} 0 1 = rw (H .empty) at c in
+              omega arith
+        ]
+      ]
+
+  finish : thread m p .standing ≢ Empty → Step m m₃ × (thread m₃ p ≡ thread m p) → Swap m p vacant (put p vacant (outOfLine p m₃))
+  finish live F =
+      after-step m m₃ p vacant _ (F .0) (cleaned m₃ (L .step .kept .sound) p (rw (F .1) live)
+      (λ s i j e. unwaited s i j (e ∙ ap (λ (t : Thread). t .number) (F .1) ∙ number)))
 
 pub ends-last : (m : Model) → Sound m → (p n : ℕ) → thread m p .standing ≢ Empty → thread m p .number ≡ n → Swap m p vacant (endLast p n m)
 ends-last m S p n live number =
     let low : n ≤ lastNumber = rw number at (S .fits p .number live) in
     let H = hands (line m (inbox p)) m S n p low live refl in
-    finish m _ _ n p allPlaces S live number every-place H (lets allPlaces _ (H .step .kept .sound) n low)
+    let A = lets allPlaces _ (H .step .kept .sound) (awaiting n) (awaiting-fair n low) in
+    let L = lets allPlaces _ (A .step .kept .sound) (listening n) (listening-fair n low) in
+    finish m _ _ _ n p allPlaces number every-place H A L live (handed-all m S n p live number allPlaces)

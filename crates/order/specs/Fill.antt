@@ -9,8 +9,9 @@ use native.Mathlib.Omega.{arith}
 use lib.ListN.{length-set}
 use lib.Dec.{eqb}
 use borrow.Author.Tests.{ne-eqb}
-use Rattle.rules.specs.Model.{places, lastNumber, Empty, Ready, Sending, Awaiting, Thread, Model, ready, thread, livesAt}
-use Rattle.rules.specs.Consistent.{belongs}
+use Rattle.rules.specs.Values.{nobody}
+use Rattle.rules.specs.Model.{places, lastNumber, Empty, Ready, Sending, Awaiting, Receiving, Thread, Model, ready, thread, livesAt}
+use Rattle.rules.specs.Consistent.{belongs, ListensToLive}
 use Rattle.order.specs.ByLine.{by-line, at-device, at-inbox}
 use Rattle.order.specs.Sound.{Fit, Live, Sound}
 use Rattle.order.specs.Lines.{Shift}
@@ -19,6 +20,7 @@ use Rattle.order.specs.Moves.{anew, beside, here, Waits, waits-then, Ste
 -- all but the place p is as a Step leaves it, and p holds t
 pub record Swap (m : Model) (p : ℕ) (t : Thread) (k : Model) : Type 0 where
   pub sound : Sound k
+  pub listens : ListensToLive m → ListensToLive k
   pub own : thread k p ≡ t
   pub lives : (s : ℕ) → s ≢ p → livesAt k s ≡ livesAt m s
   pub numbers : (s : ℕ) → s ≢ p → thread k s .number ≡ thread m s .number
@@ -27,6 +29,7 @@ pub record Swap (m : Model) (p : ℕ) (t : Thread) (k : Model) : Type 0 where
 pub after-step : (m a : Model) (p : ℕ) (t : Thread) (b : Model) → Step m a → Swap a p t b → Swap m p t b
 after-step m a p t b F G = record {
   sound = G .sound;
+  listens = λ L. G .listens (F .kept .listens L);
   own = G .own;
   lives = λ s n. G .lives s n ∙ F .kept .lives s;
   numbers = λ s n. G .numbers s n ∙ F .kept .numbers s;
@@ -39,11 +42,12 @@ pub record Change (m : Model) (p : ℕ) (t : Thread) (y x : ℕ) (ls : List (Lis
   pub fit : Fit t
   pub turn : RunsThen m p t x
   pub shift : Shift m p t ls
-  pub standing : (t .standing ≢ Sending) × (t .standing ≢ Awaiting)
+  pub standing : (t .standing ≢ Sending) × (t .standing ≢ Awaiting) × (t .standing ≢ Receiving)
   pub own : (s : ℕ) → s ≢ p → t .standing ≢ Empty → t .number ≢ thread m s .number
   pub others : (s : ℕ) → s ≢ p → thread m s .standing ≢ Empty → thread m s .number ≢ t .number
   pub alien : (s : ℕ) → s ≢ p → Sending ≤ thread m s .standing → thread m s .standing ≤ Awaiting
       → (thread m s .partner ≢ thread m p .number) × (thread m s .partner ≢ t .number)
+  pub unnamed : (s : ℕ) → s ≢ p → thread m s .standing ≡ Receiving → thread m s .partner ≢ nobody → thread m s .partner ≢ thread m p .number
 
 module _ (m : Model) (p : ℕ) (t : Thread) (y x : ℕ) (ls : List (List ℕ)) (S : Sound m) (M : Change m p t y x ls) where
   abbrev k : Model
@@ -120,9 +124,19 @@ module _ (m : Model) (p : ℕ) (t : Thread) (y x : ℕ) (ls : List (List ℕ)) (
     ];
   }
 
+  listens-after : ListensToLive m → ListensToLive k
+  listens-after L s = elim (ℕ-discrete s p) [
+    | yes e ↦ rw (e, same) (λ five _. absurd (M .standing .2 five))
+    | no n ↦ rw (other s n) (λ five named.
+        let l = L s five named in
+        let z : l .0 ≢ p = λ e. M .unnamed s n five named (sym (l .2) ∙ ap (λ (r : ℕ). thread m r .number) e) in
+        (l .0, rw (other (l .0) z) (l .1), rw (other (l .0) z) (l .2)))
+  ]
+
   pub changed : Swap m p t (anew m y p t x ls)
   changed = record {
     sound = sound-after;
+    listens = listens-after;
     own = same;
     lives = λ s n. rw (other s n);
     numbers = λ s n. rw (other s n);

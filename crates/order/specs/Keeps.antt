@@ -15,7 +15,7 @@ use Rattle.order.specs.Sound.{Sound, sound, whole}
 use Rattle.order.specs.Belongs.{in-none}
 use Rattle.order.specs.Dispatch.{dispatch}
 use Rattle.order.specs.End.{fit-vacant}
-use Rattle.order.specs.Acts.{does, acts-sound}
+use Rattle.order.specs.Acts.{does, acts-sound, acts-listens}
 
 -- ---- fresh
 
@@ -40,13 +40,13 @@ fresh-sound = record {
     no-places = []
 
 pub fresh-consistent : Consistent fresh
-fresh-consistent = whole fresh fresh-sound (λ _. refl)
+fresh-consistent = whole fresh fresh-sound (λ _. refl) (λ p. rw (vacant-all p) (λ five. absurd (omega arith)))
 
 -- ---- every event
 
 -- an accepted one
 pub acts : (e : Event) (m : Model) → Consistent m → Fits e → refusal e m ≡ 0 → Consistent (dispatched (act e m))
-acts e m C f z = dispatch (act e m) (acts-sound e m (does e m (sound m C) f z))
+acts e m C f z = let D = does e m (sound m C) f z in dispatch (act e m) (acts-sound e m D) (acts-listens e m D (C .listens))
 
 pub keeps : (e : Event) (m : Model) → Consistent m → Fits e → Consistent (next e m)
 keeps e m C f = go (eqb (refusal e m) 0) refl

@@ -26,3 +26,5 @@ pub mod Keeps
 pub mod Lives
 pub mod TurnComes
 pub mod BackOnly
+pub mod NobodyWaits
+pub mod Update

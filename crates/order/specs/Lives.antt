@@ -1,16 +1,21 @@
 -- Who lives after an accepted event: whoever lived before, but create fills the lowest empty place and end empties one.
 use Prim.Native.Nat.{ℕ}
-use mathlib.Core.Path.{_≡_, _∙_}
+use mathlib.Core.Path.{_≡_, sym, ap, _∙_}
+use mathlib.Core.Logic.{_≢_}
 use mathlib.Core.Bool.{Bool, true, false, cond, not}
 use native.Mathlib.Decide.{ℕ-discrete}
 use lib.Dec.{eqb}
 use borrow.Author.Tests.{eq-eqb, ne-eqb}
-use Rattle.rules.specs.Model.{Empty, Thread, Model, livesAt}
+use Rattle.lists.specs.Lists.{none}
+use Rattle.lists.specs.Laws.{never}
+use Rattle.rules.specs.Model.{Empty, Thread, Model, thread, livesAt}
 use Rattle.rules.specs.Rules.{placeOf, emptyPlace, dispatched, act, refusal}
 use Rattle.rules.specs.Consistent.{Fits, Consistent}
+use Rattle.rules.specs.declared.Number.{Number}
 use Rattle.rules.specs.declared.Event.{Event}
 use Rattle.rules.specs.declared.Event.the-variants.{Create, Send, Receive, Reply, End, WaitClock, SliceEnd, Tick, WaitDevice, Interrupt}
-use Rattle.order.specs.Sound.{sound}
+use Rattle.order.specs.Sound.{Sound, sound}
+use Rattle.order.specs.Places.{placed, lives-at, at-lives}
 use Rattle.order.specs.Fill.{Swap}
 use Rattle.order.specs.Dispatch.{dispatch-kept}
 use Rattle.order.specs.Acts.{Done, does, acts-sound}
@@ -49,3 +54,18 @@ pub lives : (e : Event) (m : Model) → Consistent m → Fits e → refusal e m 
 lives e m C f z p =
     let D = does e m (sound m C) f z in
     dispatch-kept (act e m) (acts-sound e m D) .lives p ∙ act-lives e m D p
+
+-- after an end nobody has the number of the one that ended
+pub gone : (t : Number) (m : Model) → Sound m → Done (End t) m → placeOf m (t .0) ≢ none
+    → (s : ℕ) → thread (dispatched (act (End t) m)) s .standing ≢ Empty → thread (dispatched (act (End t) m)) s .number ≢ t .0
+gone t m S D found s h z =
+    let a = act (End t) m in
+    let p = placeOf m (t .0) in
+    let K = dispatch-kept a (D .sound) in
+    elim (ℕ-discrete s p) [
+      | yes f ↦ never (at-lives (dispatched a) s h) (K .lives s ∙ ap (livesAt a) f ∙ rw (D .own))
+      | no ne ↦
+          let num : thread m s .number ≡ t .0 = sym (K .numbers s ∙ D .numbers s ne) ∙ z in
+          let was : thread m s .standing ≢ Empty = lives-at m s (sym (K .lives s ∙ D .lives s ne) ∙ at-lives (dispatched a) s h) in
+          ne (S .differ s p was (num ∙ sym (placed m (t .0) found .1)))
+    ]

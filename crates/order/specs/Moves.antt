@@ -12,9 +12,10 @@ use lib.Seq.{getD-set-same, getD-set-other}
 use lib.Dec.{eqb}
 use borrow.Author.Tests.{ne-eqb}
 use Rattle.lists.specs.Lists.{none}
-use Rattle.rules.specs.Model.{places, Empty, Running, Ready, Sending, Awaiting, Thread, vacant, Model, ready, thread, line, livesAt}
+use Rattle.rules.specs.Values.{nobody}
+use Rattle.rules.specs.Model.{places, Empty, Running, Ready, Sending, Awaiting, Receiving, Thread, vacant, Model, ready, thread, line, livesAt}
 use Rattle.rules.specs.Rules.{hears}
-use Rattle.rules.specs.Consistent.{belongs}
+use Rattle.rules.specs.Consistent.{belongs, ListensToLive}
 use Rattle.order.specs.ByLine.{by-line, at-device, at-inbox}
 use Rattle.order.specs.Sound.{Fit, Live, Sound, small}
 use Rattle.order.specs.Ahead.{ahead}
@@ -33,9 +34,10 @@ here m S p t h = getD-set-same (m .threads) p t vacant (omega (arith, S .threads
 
 -- ---- what a move leaves as it was
 
--- nobody comes or goes
+-- nobody comes or goes, and nobody begins to listen to the dead
 pub record Kept (m k : Model) : Type 0 where
   pub sound : Sound k
+  pub listens : ListensToLive m → ListensToLive k
   pub lives : (s : ℕ) → livesAt k s ≡ livesAt m s
   pub numbers : (s : ℕ) → thread k s .number ≡ thread m s .number
 
@@ -49,10 +51,15 @@ pub record Step (m k : Model) : Type 0 where
   pub waits : (s : ℕ) → thread m s .standing ≡ Ready → Waits m k s
 
 pub still : (m : Model) → Sound m → Step m m
-still m S = record { kept = record { sound = S; lives = λ s. refl; numbers = λ s. refl }; waits = λ s e. (refl, omega arith) }
+still m S = record { kept = record { sound = S; listens = λ L. L; lives = λ s. refl; numbers = λ s. refl }; waits = λ s e. (refl, omega arith) }
 
 pub kept-then : (m a b : Model) → Kept m a → Kept a b → Kept m b
-kept-then m a b F G = record { sound = G .sound; lives = λ s. G .lives s ∙ F .lives s; numbers = λ s. G .numbers s ∙ F .numbers s }
+kept-then m a b F G = record {
+  sound = G .sound;
+  listens = λ L. G .listens (F .listens L);
+  lives = λ s. G .lives s ∙ F .lives s;
+  numbers = λ s. G .numbers s ∙ F .numbers s;
+}
 
 pub waits-then : (m a b : Model) (s : ℕ) → Waits m a s → Waits a b s → Waits m b s
 waits-then m a b s v w = (w .0 ∙ v .0, let i = v .1 in let j = w .1 in omega arith)
@@ -82,6 +89,7 @@ pub record Move (m : Model) (p : ℕ) (t : Thread) (x : ℕ) (ls : List (List �
   pub served : Sending ≤ t .standing → t .standing ≤ Awaiting → Live m (t .partner)
   pub hearing : (s : ℕ) → thread m s .standing ≡ Sending → thread m s .partner ≡ thread m p .number → hears t (thread m s .number) ≡ false
   pub heard : (r : ℕ) → t .standing ≡ Sending → t .partner ≡ thread m r .number → hears (thread m r) (t .number) ≡ false
+  pub listens : t .standing ≡ Receiving → t .partner ≢ nobody → Live m (t .partner)
 
 module _ (m : Model) (p : ℕ) (t : Thread) (x : ℕ) (ls : List (List ℕ)) (S : Sound m) (M : Move m p t x ls) where
   abbrev k : Model
@@ -143,8 +151,14 @@ module _ (m : Model) (p : ℕ) (t : Thread) (x : ℕ) (ls : List (List ℕ)) (S 
     ];
   }
 
+  listens-after : ListensToLive m → ListensToLive k
+  listens-after L s = elim (ℕ-discrete s p) [
+    | yes e ↦ rw (e, same) (λ five n. live-after (t .partner) (M .listens five n))
+    | no z ↦ rw (other s z) (λ five n. live-after (thread m s .partner) (L s five n))
+  ]
+
   pub moved : Kept m (anew m (m .last) p t x ls)
-  moved = record { sound = sound-after; lives = living; numbers = numbered }
+  moved = record { sound = sound-after; listens = listens-after; lives = living; numbers = numbered }
 
   -- the one that moves was not ready itself
   pub stepped : thread m p .standing ≢ Ready → Step m (anew m (m .last) p t x ls)

@@ -16,7 +16,7 @@ use Rattle.lists.specs.Counts.{some-among}
 use Rattle.lists.specs.Without.{without-append}
 use Rattle.rules.specs.Values.{nobody}
 use Rattle.rules.specs.Model.{Empty, Running, Ready, Sending, Waiting, AtDevice, Thread, vacant, Model, ready, clock, device, inbox, thread, line, allPlaces}
-use Rattle.rules.specs.Rules.{placeOf, put, relined, leave, stands, told, woken, awaitsAt, handedBack, letGo, outOfLine, endAt, end}
+use Rattle.rules.specs.Rules.{placeOf, put, relined, leave, stands, told, woken, handedBack, Group, letGo, awaiting, listening, outOfLine, endAt, end}
 use Rattle.order.specs.Sound.{Sound, at-index}
 use Rattle.order.specs.Places.{live-placed, placed}
 use Rattle.order.specs.Moves.{Step}
@@ -50,19 +50,26 @@ module _ (n a : ℕ) (g : ℕ → ℕ) (h : List (List ℕ) → List (List ℕ))
       λ j. record { last = m .last; running = g (m .running); threads = set (m .threads) s t; lines = c₁ (m .lines) l s i j } in
       (ap (handedBack n a l) e ∙ R .0, R .1)
 
-  let-comm-one : (m : Model) (s : ℕ) (b : Bool) → inv (m .lines)
-      → (cond b (woken s 16 n (thread m s .word) (op m)) (op m) ≡ op (cond b (woken s 16 n (thread m s .word) m) m)) × inv ((cond b (woken s 16 n (thread m s .word) m) m) .lines)
-  let-comm-one m s true i =
-      let t = stands Ready nobody 0 (told 16 n (thread m s .word) (thread m s)) in
+  let-comm-one : (m : Model) (s c w : ℕ) (b : Bool) → inv (m .lines)
+      → (cond b (woken s 16 c w (op m)) (op m) ≡ op (cond b (woken s 16 c w m) m)) × inv ((cond b (woken s 16 c w m) m) .lines)
+  let-comm-one m s c w true i =
+      let t = stands Ready nobody 0 (told 16 c w (thread m s)) in
       ((λ j. record { last = m .last; running = g (m .running); threads = set (m .threads) s t; lines = c₂ (m .lines) s i j }), i₂ (m .lines) s i)
-  let-comm-one m s false i = (refl, i)
+  let-comm-one m s c w false i = (refl, i)
 
-  let-comm : (l : List ℕ) (m : Model) → inv (m .lines) → letGo n l (op m) ≡ op (letGo n l m)
-  let-comm [] m i = refl
-  let-comm (s ∷ l) m i = let R = let-comm-one m s (awaitsAt s n m) i in ap (letGo n l) (R .0) ∙ let-comm l (let-step n s m) (R .1)
+  let-comm : (v : Group) (l : List ℕ) (m : Model) → inv (m .lines) → (letGo v l (op m) ≡ op (letGo v l m)) × inv (letGo v l m .lines)
+  let-comm v [] m i = (refl, i)
+  let-comm v (s ∷ l) m i =
+      let R = let-comm-one m s (v .who (thread m s)) (v .word (thread m s)) (v .picks (thread m s)) i in
+      let T = let-comm v l (let-step v s m) (R .1) in
+      (ap (letGo v l) (R .0) ∙ T .0, T .1)
 
-  both-comm : (l k : List ℕ) (m : Model) → inv (m .lines) → letGo n k (handedBack n a l (op m)) ≡ op (letGo n k (handedBack n a l m))
-  both-comm l k m i = let R = hand-comm l m i in ap (letGo n k) (R .0) ∙ let-comm k (handedBack n a l m) (R .1)
+  all-comm : (l k : List ℕ) (m : Model) → inv (m .lines)
+      → letGo (listening n) k (letGo (awaiting n) k (handedBack n a l (op m))) ≡ op (letGo (listening n) k (letGo (awaiting n) k (handedBack n a l m)))
+  all-comm l k m i =
+      let R = hand-comm l m i in
+      let T = let-comm (awaiting n) k (handedBack n a l m) (R .1) in
+      ap (λ (x : Model). letGo (listening n) k (letGo (awaiting n) k x)) (R .0) ∙ ap (letGo (listening n) k) (T .0) ∙ let-comm (listening n) k (letGo (awaiting n) k (handedBack n a l m)) (T .1) .0
 
 -- ---- p leaves line q of L
 
@@ -122,7 +129,7 @@ module _ (p a : ℕ) where
 
 module _ (m : Model) (S : Sound m) (n p : ℕ) (k : List ℕ) (live : thread m p .standing ≢ Empty) where
   abbrev later : Model
-  later = letGo n k (handedBack n p (line m (inbox p)) m)
+  later = letGo (listening n) k (letGo (awaiting n) k (handedBack n p (line m (inbox p)) m))
 
   module _ (F : Step m later) (kept : thread later p ≡ thread m p) where
     S′ : Sound later
@@ -132,19 +139,19 @@ module _ (m : Model) (S : Sound m) (n p : ℕ) (k : List ℕ) (live : thread m p
     st = ap (λ (t : Thread). t .standing) kept
 
     other-line : (q : ℕ) → q ≢ ready → q ≢ inbox p
-        → letGo n k (handedBack n p (line (leave q p m) (inbox p)) (leave q p m)) ≡ leave q p later
+        → letGo (listening n) k (letGo (awaiting n) k (handedBack n p (line (leave q p m) (inbox p)) (leave q p m))) ≡ leave q p later
     other-line q q0 qa =
         rw (getD-set-other (m .lines) q (inbox p) (without p (line m q)) [] (λ e. qa (sym e)))
-        (both-comm n p (λ x. x) (off p q) (λ _. Unit {0}) (λ L l s _. off-pass p q p q0 qa L l s) (λ L s _. off-enter p q p q0 qa L s) (λ _ _ _ _. tt) (λ _ _ _. tt)
+        (all-comm n p (λ x. x) (off p q) (λ _. Unit {0}) (λ L l s _. off-pass p q p q0 qa L l s) (λ L s _. off-enter p q p q0 qa L s) (λ _ _ _ _. tt) (λ _ _ _. tt)
         (line m (inbox p)) k m tt)
 
-    same : letGo n k (handedBack n p (line (outOfLine p m) (inbox p)) (outOfLine p m)) ≡ outOfLine p later
+    same : letGo (listening n) k (letGo (awaiting n) k (handedBack n p (line (outOfLine p m) (inbox p)) (outOfLine p m))) ≡ outOfLine p later
     same = elim (ℕ-discrete (thread m p .standing) Running) [
       | yes e ↦ rw (eq-eqb (thread m p .standing) Running e, eq-eqb (thread later p .standing) Running (st ∙ e))
-          (both-comm n p (λ _. none) (λ L. L) (λ _. Unit {0}) (λ _ _ _ _. refl) (λ _ _ _. refl) (λ _ _ _ _. tt) (λ _ _ _. tt) (line m (inbox p)) k m tt)
+          (all-comm n p (λ _. none) (λ L. L) (λ _. Unit {0}) (λ _ _ _ _. refl) (λ _ _ _. refl) (λ _ _ _ _. tt) (λ _ _ _. tt) (line m (inbox p)) k m tt)
       | no n1 ↦ rw (ne-eqb (thread m p .standing) Running n1, ne-eqb (thread later p .standing) Running (rw st n1)) (elim (ℕ-discrete (thread m p .standing) Ready) [
         | yes e ↦ rw (eq-eqb (thread m p .standing) Ready e, eq-eqb (thread later p .standing) Ready (st ∙ e), getD-set-other (m .lines) ready (inbox p) (without p (line m ready)) [] (omega arith))
-            (both-comm n p (λ x. x) (off p ready) (Inside p) (front-pass p p) (front-enter p p) (pass-inside p p) (enter-inside p p) (line m (inbox p)) k m
+            (all-comm n p (λ x. x) (off p ready) (Inside p) (front-pass p p) (front-enter p p) (pass-inside p p) (enter-inside p p) (line m (inbox p)) k m
             (some-among p (line m ready) (rw (S .stood p ready, e) (omega arith)), omega (arith, S .lines)))
         | no n2 ↦ rw (ne-eqb (thread m p .standing) Ready n2, ne-eqb (thread later p .standing) Ready (rw st n2)) (elim (ℕ-discrete (thread m p .standing) Sending) [
           | yes e ↦
@@ -172,8 +179,9 @@ module _ (m : Model) (S : Sound m) (n p : ℕ) (k : List ℕ) (live : thread m p
     ]
 
 in-order : (m : Model) (S : Sound m) (n p : ℕ) (k : List ℕ) → thread m p .standing ≢ Empty → thread m p .number ≡ n
-    → letGo n k (handedBack n p (line (outOfLine p m) (inbox p)) (outOfLine p m)) ≡ outOfLine p (letGo n k (handedBack n p (line m (inbox p)) m))
-in-order m S n p k live number = let H = handed-all m S n p k live number in same m S n p k live (H .0) (H .1)
+    → letGo (listening n) k (letGo (awaiting n) k (handedBack n p (line (outOfLine p m) (inbox p)) (outOfLine p m)))
+    ≡ outOfLine p (letGo (listening n) k (letGo (awaiting n) k (handedBack n p (line m (inbox p)) m)))
+in-order m S n p k live number = let H = handed-all m S n p live number k in same m S n p k live (H .0) (H .1)
 
 -- ---- the theorem
 

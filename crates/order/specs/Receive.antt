@@ -11,12 +11,12 @@ use Rattle.lists.specs.Lists.{none, bit, count, firstOf}
 use Rattle.lists.specs.Search.{found-in, found-none}
 use Rattle.rules.specs.Values.{nobody}
 use Rattle.rules.specs.Model.{places, lastNumber, Empty, Running, Awaiting, Receiving, Model, inbox, thread, line}
-use Rattle.rules.specs.Rules.{mine, put, told, stands, stops, wants, awaits, takes, receive}
+use Rattle.rules.specs.Rules.{placeOf, mine, put, told, stands, stops, wants, awaits, takes, receive}
 use Rattle.rules.specs.Consistent.{isNumber, belongs}
 use Rattle.order.specs.ByLine.{at-inbox}
 use Rattle.order.specs.Sound.{Short, Sound, small, sending, sent}
 use Rattle.order.specs.Belongs.{in-none, in-inbox}
-use Rattle.order.specs.Places.{none-nowhere}
+use Rattle.order.specs.Places.{none-nowhere, placed}
 use Rattle.order.specs.Lines.{stays, leaves, drops-without}
 use Rattle.order.specs.Moves.{beside, Step, stepped, then, stopping, aside}
 use Rattle.order.specs.Standings.{named, told-by}
@@ -60,6 +60,7 @@ goes-on m S c e o n w h short =
       served = S .served c;
       hearing = λ s. S .deaf c s;
       heard = λ r. S .deaf r c;
+      listens = λ five _. absurd (omega arith);
     }) (omega arith)
   where
     same-lines : (q : ℕ) → belongs m (told 0 n w (thread m c)) q ≡ belongs m (thread m c) q
@@ -79,7 +80,7 @@ module _ (m : Model) (S : Sound m) (busy : m .running ≢ none) where
       (rw (beside m p c (stands Awaiting (thread m p .partner) (thread m p .word) (thread m p)) ne) o)
       (thread m p .number) (thread m p .word) (S .fits p .number (omega arith)) (S .fits p .words .0))
 
-  module _ (n : ℕ) (source : isNumber n || eqb n nobody ≡ true) (apart : n ≢ mine m) where
+  module _ (n : ℕ) (source : isNumber n || eqb n nobody ≡ true) (apart : n ≢ mine m) (live : n ≢ nobody → placeOf m n ≢ none) where
     -- no match: the caller receives
     pub listens : firstOf (λ p. wants n (thread m p .number)) (line m (inbox (m .running))) ≡ none → Step m (stops Receiving n 0 m)
     listens e =
@@ -106,6 +107,7 @@ module _ (m : Model) (S : Sound m) (busy : m .running ≢ none) where
           hearing = λ s i j. found-none (λ p. wants n (thread m p .number)) (line m (inbox c)) (none-nowhere m S (inbox c)) e s
               (let k : count s (line m (inbox c)) ≡ 1 = S .stood s (inbox c) ∙ ap bit (at-inbox m (thread m s) c) ∙ rw (i, j, eq-eqb (thread m c .number) (thread m c .number) refl) in omega arith);
           heard = λ r i j. absurd (omega arith);
+          listens = λ _ k. let at = placed m n (live k) in (placeOf m n, at .0, at .1);
         }) (omega arith)
 
     pub receives : Step m (receive n m)

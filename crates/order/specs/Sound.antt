@@ -1,10 +1,10 @@
 -- `Sound`: consistency in the shape that proofs use, without its clause `settled`, which fails in the middle of an event.
--- `sound` and `whole` say that `Consistent` is `Sound` and that clause.
+-- `old-sound` and `old-whole` say that `OldConsistent` is `Sound` and that clause; `Consistent` has the clause of P2 besides (`sound`, `whole`).
 use Prim.Native.Nat.{ℕ, _^_, _≤_, _<_}
 use mathlib.Core.Path.{_≡_, refl, sym, ap, _∙_}
 use mathlib.Core.Logic.{_≢_}
 use mathlib.Core.List.{List, [], _∷_}
-use mathlib.Core.Bool.{true, false, _&&_}
+use mathlib.Core.Bool.{Bool, true, false, _&&_}
 use native.Mathlib.Decide.{decLt}
 use native.Mathlib.Omega.{arith}
 use lib.ListN.{length, List·getD-eq-default}
@@ -16,7 +16,7 @@ use Rattle.lists.specs.Counts.{count-self}
 use Rattle.rules.specs.Values.{nobody}
 use Rattle.rules.specs.Model.{places, devices, lastNumber, lineCount, Empty, Running, Sending, Awaiting, Receiving, AtDevice, Thread, vacant, Model, ready, inbox, thread, line}
 use Rattle.rules.specs.Rules.{wants, hears}
-use Rattle.rules.specs.Consistent.{belongs, asTable, isAnswer, Consistent}
+use Rattle.rules.specs.Consistent.{belongs, asTable, isAnswer, OldConsistent, ListensToLive, Consistent, ConsistentBy}
 use Rattle.order.specs.ByLine.{at-inbox}
 
 -- a 32-bit word
@@ -99,7 +99,7 @@ module _ (m : Model) (S : Sound m) (r p : ℕ) (h : 1 ≤ count p (line m (inbox
 
 -- ---- the tie to the readable text
 
-module _ (m : Model) (C : Consistent m) where
+module _ (m : Model) (C : OldConsistent m) where
   fit : (p : ℕ) → Fit (thread m p)
   fit p = record { clean = C .clean p; table = C .table p; answer = C .answers p; number = C .numbers p; apart = C .apart p; words = C .words p }
 
@@ -113,8 +113,8 @@ module _ (m : Model) (C : Consistent m) where
       (λ t. let z : _≡_ {A = ℕ} 0 1 = rw (C .any r five (eqb-true _ _ t)) at in-it in omega arith)
       (λ t. let z = C .from r p five (eqb-true _ _ (rw t at w)) in omega arith)
 
-  pub sound : Sound m
-  sound = record {
+  pub old-sound : Sound m
+  old-sound = record {
     threads = C .threads;
     lines = C .lines;
     last = C .last;
@@ -126,6 +126,14 @@ module _ (m : Model) (C : Consistent m) where
     deaf = λ r p e f. by-test (hears (thread m r) (thread m p .number)) (λ h. absurd (unheard-by r p e f h)) (λ h. h);
     stood = C .stood;
   }
+
+pub sound : (m : Model) → Consistent m → Sound m
+sound m C = old-sound m (C .old)
+
+-- either way
+pub old-of : (strict : Bool) {m : Model} → ConsistentBy strict m → OldConsistent m
+old-of true C = C .old
+old-of false C = C
 
 module _ (m : Model) (S : Sound m) where
   any-empty : (r : ℕ) → thread m r .standing ≡ Receiving → thread m r .partner ≡ nobody → (l : List ℕ) → line m (inbox r) ≡ l → l ≡ []
@@ -142,8 +150,8 @@ module _ (m : Model) (S : Sound m) where
         (λ t. never (eq-eqb _ _ e) (rw t at u))
   ]
 
-  pub whole : (m .running ≡ none → line m ready ≡ []) → Consistent m
-  whole settled = record {
+  pub old-whole : (m .running ≡ none → line m ready ≡ []) → OldConsistent m
+  old-whole settled = record {
     threads = S .threads;
     lines = S .lines;
     words = λ p. S .fits p .words;
@@ -162,3 +170,6 @@ module _ (m : Model) (S : Sound m) where
     answers = λ p. S .fits p .answer;
     clean = λ p. S .fits p .clean;
   }
+
+  pub whole : (m .running ≡ none → line m ready ≡ []) → ListensToLive m → Consistent m
+  whole settled listens = record { old = old-whole settled; listens = listens }

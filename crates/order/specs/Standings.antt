@@ -58,6 +58,7 @@ module _ (m : Model) (S : Sound m) (p : ℕ) (lived : thread m p .standing ≢ E
         served = λ i j. absurd (omega arith);
         hearing = λ s i j. rw (ne-eqb st Receiving (k .3));
         heard = λ r i j. absurd (k .1 i);
+        listens = λ five _. absurd (k .3 five);
       }
 
   -- sending, awaiting reply
@@ -82,6 +83,7 @@ module _ (m : Model) (S : Sound m) (p : ℕ) (lived : thread m p .standing ≢ E
     served = λ i j. l;
     hearing = λ s i j. rw (ne-eqb st Receiving (k .1));
     heard = d;
+    listens = λ five _. absurd (k .1 five);
   }
 
   -- p, in no line and not running, has its answer and goes to the back of ready

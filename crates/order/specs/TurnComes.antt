@@ -12,9 +12,9 @@ use lib.Seq.{getD-set-same}
 use lib.Dec.{eqb}
 use borrow.Author.Tests.{eqb-true, eqb-false, eq-eqb, ne-eqb}
 use Rattle.lists.specs.Lists.{none, bit, count}
-use Rattle.lists.specs.Laws.{by-test, never}
+use Rattle.lists.specs.Laws.{by-test}
 use Rattle.rules.specs.Values.{nobody}
-use Rattle.rules.specs.Model.{places, Empty, Running, Ready, Model, ready, thread, line, livesAt}
+use Rattle.rules.specs.Model.{places, Empty, Running, Ready, Model, ready, thread, line}
 use Rattle.rules.specs.Rules.{placeOf, idle, stands, starts, dispatched, choice, notLive, act, refusal, next, after}
 use Rattle.rules.specs.Consistent.{Fits, Consistent}
 use Rattle.rules.specs.declared.Number.{Number}
@@ -22,12 +22,12 @@ use Rattle.rules.specs.declared.Event.{Event}
 use Rattle.rules.specs.declared.Event.the-variants.{Create, Send, Receive, Reply, End, WaitClock, SliceEnd, Tick, WaitDevice, Interrupt}
 use Rattle.rules.specs.declared.Choice.the-variants.{Run}
 use Rattle.order.specs.Sound.{Sound, small, sound}
-use Rattle.order.specs.Places.{elsewhere, placed, lives-at, at-lives, not-in-use}
+use Rattle.order.specs.Places.{elsewhere, placed, not-in-use}
 use Rattle.order.specs.Ahead.{ahead, ahead-past}
 use Rattle.order.specs.Moves.{beside, here, Waits}
-use Rattle.order.specs.Dispatch.{dispatch-kept}
 use Rattle.order.specs.Accepted.{Accepted, accepted}
 use Rattle.order.specs.Acts.{Done, does, acts-sound}
+use Rattle.order.specs.Lives.{gone}
 use Rattle.order.specs.Keeps.{AllFit, keeps}
 
 -- ---- the words of the theorem
@@ -124,26 +124,18 @@ module _ (ends : Type 0) (m : Model) (S : Sound m) (p n k : ℕ) (Q : Queued m p
       go false e = later k (omega arith) Q
 
 module _ (m : Model) (S : Sound m) (p n k : ℕ) (Q : Queued m p n k) where
+  own : (t : Number) → placeOf m (t .0) ≢ none → placeOf m (t .0) ≡ p → t .0 ≡ n
+  own t found e = sym (placed m (t .0) found .1) ∙ ap (λ (x : ℕ). thread m x .number) e ∙ Q .number
+
   -- it is this thread that is ended: nobody has its number then
-  ended : (t : Number) → Done (End t) m → placeOf m (t .0) ≡ p → notLive (dispatched (act (End t) m)) n ≡ true
-  ended t D e =
-      let a = act (End t) m in
-      let K = dispatch-kept a (D .sound) in
-      let dead : livesAt a p ≡ false = rw (← e, D .own) in
-      let gone : (s : ℕ) → thread (dispatched a) s .standing ≢ Empty → thread (dispatched a) s .number ≢ n =
-      λ s h z. elim (ℕ-discrete s p) [
-        | yes f ↦ never (at-lives (dispatched a) s h) (K .lives s ∙ ap (livesAt a) f ∙ dead)
-        | no g ↦
-            let ne : s ≢ placeOf m (t .0) = λ y. g (y ∙ e) in
-            let num : thread m s .number ≡ n = sym (K .numbers s ∙ D .numbers s ne) ∙ z in
-            let was : thread m s .standing ≢ Empty = lives-at m s (sym (K .lives s ∙ D .lives s ne) ∙ at-lives (dispatched a) s h) in
-            g (S .differ s p was (num ∙ sym (Q .number)))
-      ] in
-      rw (not-in-use (dispatched a) n gone)
+  ended : (t : Number) → placeOf m (t .0) ≢ none → Done (End t) m → placeOf m (t .0) ≡ p → notLive (dispatched (act (End t) m)) n ≡ true
+  ended t found D e =
+      let z : t .0 ≡ n = own t found e in
+      rw (not-in-use (dispatched (act (End t) m)) n (λ s h y. gone t m S D found s h (y ∙ sym z)))
 
   -- and the number that the event names is its own
   named : (t : Number) → placeOf m (t .0) ≢ none → placeOf m (t .0) ≡ p → End t ≡ End (record { 0 = n })
-  named t h e = let z : t .0 ≡ n = sym (placed m (t .0) h .1) ∙ ap (λ (x : ℕ). thread m x .number) e ∙ Q .number in ap (λ (x : ℕ). End (record { 0 = x })) z
+  named t h e = ap (λ (x : ℕ). End (record { 0 = x })) (own t h e)
 
   -- or it goes on waiting
   waits : (e : Event) → Accepted e m → Done e m → Waits m (act e m) p ⊎ ((e ≡ End (record { 0 = n })) × (notLive (dispatched (act e m)) n ≡ true))
@@ -151,7 +143,7 @@ module _ (m : Model) (S : Sound m) (p n k : ℕ) (Q : Queued m p n k) where
   waits (Send d w) A D = inl (D .waits p (Q .standing))
   waits (Receive x) A D = inl (D .waits p (Q .standing))
   waits (Reply t w) A D = inl (D .waits p (Q .standing))
-  waits (End t) A D = elim (ℕ-discrete (placeOf m (t .0)) p) [ yes e ↦ inr (named t A e, ended t D e) | no z ↦ inl (D .waits p (λ y. z (sym y)) (Q .standing)) ]
+  waits (End t) A D = elim (ℕ-discrete (placeOf m (t .0)) p) [ yes e ↦ inr (named t A e, ended t A D e) | no z ↦ inl (D .waits p (λ y. z (sym y)) (Q .standing)) ]
   waits WaitClock A D = inl (D .waits p (Q .standing))
   waits SliceEnd A D = inl (D .waits p (Q .standing))
   waits Tick A D = inl (D .waits p (Q .standing))

@@ -4,3 +4,4 @@ pub mod History
 pub mod Runs
 pub mod Boots
 pub mod Counted
+pub mod Updated

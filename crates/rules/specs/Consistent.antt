@@ -1,4 +1,4 @@
--- When a nucleus is consistent (document 01, "The cab's threads", and document 02, P1), in the order of the document's sentence.
+-- When a nucleus is consistent (document 01, "The cab's threads", and document 02, P1 and P2), in the order of the document's sentence.
 use Prim.Native.Nat.{ℕ, _-_, _^_, _≤_, _<_}
 use mathlib.Core.Path.{_≡_}
 use mathlib.Core.Logic.{_≢_}
@@ -43,7 +43,8 @@ isAnswer code who word = (eqb code 0 || eqb code 16) && isNumber who || eqb code
 abbrev pub Fits : Event → Type 0
 Fits e = (wordIn e < 2 ^ 32) × (setIn e .low < 2 ^ 32) × (setIn e .high < 2 ^ 16)
 
-pub record Consistent (m : Model) : Type 0 where
+-- What the old rules, those before P2, call consistent: every clause but that of P2, which comes behind it. The update load takes this.
+pub record OldConsistent (m : Model) : Type 0 where
   -- a thread for each place, a list for each line, and 32-bit words
   pub threads : length (m .threads) ≡ places
   pub lines : length (m .lines) ≡ lineCount
@@ -72,3 +73,17 @@ pub record Consistent (m : Model) : Type 0 where
   pub answers : (p : ℕ) → isAnswer (thread m p .code) (thread m p .who) (thread m p .answer) ≡ true
   -- an empty place, and a queue slot past its queue's length, holds one fixed clean value. (The slots are the code's: `Tidy` of crate `lines`.)
   pub clean : (p : ℕ) → thread m p .standing ≡ Empty → thread m p ≡ vacant
+
+-- P2: a consistent state has no receiver naming a dead thread. (255 is nobody.)
+abbrev pub ListensToLive : Model → Type 0
+ListensToLive m = (p : ℕ) → thread m p .standing ≡ Receiving → thread m p .partner ≢ nobody
+    → (r : ℕ) × (thread m r .standing ≢ Empty) × (thread m r .number ≡ thread m p .partner)
+
+pub record Consistent (m : Model) : Type 0 where
+  pub old : OldConsistent m
+  pub listens : ListensToLive m
+
+-- By the rules as they are, or, where strict is false, by the old ones: so is everything of which the name ends in By.
+abbrev pub ConsistentBy : Bool → Model → Type 0
+ConsistentBy true m = Consistent m
+ConsistentBy false m = OldConsistent m

@@ -1,5 +1,5 @@
--- "Loads that were counted" (document 01): the starred cases that need no image and no log, and cases of document 02's P1, as one table, and one fact that
--- covers it.
+-- "Loads that were counted" (document 01): the starred cases that need no image and no log, and cases of document 02's P1 and P2, as one table, and one fact
+-- that covers it.
 use Prim.Native.Nat.{ℕ}
 use mathlib.Core.Path.{_≡_, refl}
 use mathlib.Core.List.{List, [], _∷_, _++_, map}
@@ -125,6 +125,15 @@ cases =
     ∷ case fresh (one ++ (WaitDevice (dev 48) ∷ [])) 0 2 nobody (Run (no 0)) (runner 0 0 nobody 0)
     ∷ case fresh (WaitDevice (dev 48) ∷ []) 0 1 nobody Halt vacant
     ∷ case fresh (one ++ (WaitDevice (dev 0) ∷ End (no 0) ∷ [])) 0 0 nobody Halt vacant
+    -- P2. 0 receives from 1, 1 is ended by itself: 0 runs with 16, 1, 0.
+    ∷ case fresh (pair ++ (Receive (no 1) ∷ End (no 1) ∷ [])) 0 0 nobody (Run (no 0)) (runner 0 16 1 0)
+    -- The answer's word is 0, and not that of the last answer. (0 had 7 from 1, and replied.)
+    ∷ case fresh (met ++ (Reply (no 1) 9 ∷ SliceEnd ∷ Receive (no 1) ∷ End (no 1) ∷ [])) 0 0 nobody (Run (no 0)) (runner 0 16 1 0)
+    -- Receive from a dead number: 4, after 3 and 2; from any, or from one that lives: 0.
+    ∷ case fresh (one ++ (Receive (no 5) ∷ [])) 0 4 nobody (Run (no 0)) (runner 0 0 nobody 0)
+    ∷ case fresh (one ++ (Receive (no 0) ∷ [])) 0 3 nobody (Run (no 0)) (runner 0 0 nobody 0)
+    ∷ case fresh (one ++ (Receive (no 254) ∷ [])) 0 2 nobody (Run (no 0)) (runner 0 0 nobody 0)
+    ∷ case fresh (pair ++ (Receive (no 1) ∷ [])) 0 0 nobody (Run (no 1)) (thread-as 0 Receiving 1 0 0 nobody 0)
     ∷ []
 
 pub counted : map found cases ≡ map (λ c. c .seen) cases

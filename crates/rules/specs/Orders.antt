@@ -4,8 +4,8 @@ use mathlib.Core.List.{List, [], _∷_, _++_, map}
 use Prim.Native.Nat.{ℕ}
 use Rattle.lists.specs.Lists.{tally}
 use Rattle.rules.specs.Values.{nobody}
-use Rattle.rules.specs.Model.{Awaiting, ready, clock, inbox, line, thread, allPlaces}
-use Rattle.rules.specs.Rules.{firstFree, fresh, after}
+use Rattle.rules.specs.Model.{Awaiting, Receiving, Thread, Model, ready, clock, inbox, line, thread, allPlaces}
+use Rattle.rules.specs.Rules.{firstFree, put, stands, fresh, after, updated}
 use Rattle.rules.specs.Counted.{no}
 use Rattle.rules.specs.declared.Event.{Event}
 use Rattle.rules.specs.declared.Event.the-variants.{Create, Send, Receive, End, WaitClock, SliceEnd, Tick}
@@ -44,3 +44,49 @@ end-by-groups :
     × (line (after (heardTwo ++ (End (no 0) ∷ [])) fresh) ready ≡ 3 ∷ 1 ∷ 2 ∷ [])
 unfolding allPlaces firstFree tally
 end-by-groups = (refl, refl, refl, refl)
+
+-- P2: thread 5 has 4 and 3 in its inbox and owes 2 a reply, and 1 and then 0 receive from it. When it ends, these come last, by rising place, with word 0.
+abbrev listenedTo : List Event
+listenedTo =
+    Create ∷ Create ∷ Create ∷ Create ∷ Create ∷ Create ∷ SliceEnd ∷ Receive (no 5) ∷ Send (no 5) 7 ∷ SliceEnd ∷ Send (no 5) 8 ∷ Receive (no nobody) ∷ SliceEnd ∷ Receive (no 5)
+    ∷ Send (no 5) 9 ∷ []
+
+-- who runs, ready, and the answers of the threads at some places
+abbrev wokenIn : Model → List ℕ → List (List ℕ)
+wokenIn m ps = (m .running ∷ []) ∷ line m ready ∷ map (λ (t : Thread). t .code ∷ t .who ∷ t .answer ∷ []) (map (thread m) ps)
+
+end-by-three-groups :
+    (line (after listenedTo fresh) (inbox 5) ≡ 4 ∷ 3 ∷ [])
+    × (wokenIn (after (listenedTo ++ (End (no 5) ∷ [])) fresh) (0 ∷ 1 ∷ 2 ∷ [])
+    ≡ (4 ∷ []) ∷ (3 ∷ 2 ∷ 0 ∷ 1 ∷ []) ∷ (16 ∷ 5 ∷ 0 ∷ []) ∷ (16 ∷ 5 ∷ 0 ∷ []) ∷ (16 ∷ 5 ∷ 7 ∷ []) ∷ [])
+unfolding allPlaces firstFree tally
+end-by-three-groups = (refl, refl)
+
+-- the thread at p receives from n, as under the old rules it could whoever n was
+abbrev receivesFrom : ℕ → ℕ → Model → Model
+receivesFrom p n m = put p (stands Receiving n 0 (thread m p)) m
+
+abbrev allReceive : Model
+allReceive =
+    after (Create ∷ Create ∷ Create ∷ Create ∷ Receive (no nobody) ∷ Receive (no nobody) ∷ Receive (no nobody) ∷ Receive (no nobody) ∷ []) fresh
+
+-- The update load: 0 and 2 receive from 9 and 7, who are dead, 1 from 2, who lives, and 3 from any. Nobody runs: 0 and 2 are woken, by rising place, and 0
+-- runs.
+abbrev twoDead : Model
+twoDead = receivesFrom 2 7 (receivesFrom 1 2 (receivesFrom 0 9 allReceive))
+
+update-by-place : wokenIn (updated twoDead) (0 ∷ 2 ∷ []) ≡ (0 ∷ []) ∷ (2 ∷ []) ∷ (16 ∷ 9 ∷ 0 ∷ []) ∷ (16 ∷ 7 ∷ 0 ∷ []) ∷ []
+unfolding allPlaces firstFree tally
+update-by-place = refl
+
+update-past : map (λ (t : Thread). t .standing ∷ t .partner ∷ []) (map (thread (updated twoDead)) (1 ∷ 3 ∷ [])) ≡ (Receiving ∷ 2 ∷ []) ∷ (Receiving ∷ nobody ∷ []) ∷ []
+unfolding allPlaces firstFree tally
+update-past = refl
+
+-- Where somebody runs, it goes on, and whoever is woken is ready behind those who are.
+abbrev oneDead : Model
+oneDead = receivesFrom 0 7 (after (Create ∷ Create ∷ Create ∷ Receive (no nobody) ∷ []) fresh)
+
+update-running : wokenIn (updated oneDead) (0 ∷ []) ≡ (1 ∷ []) ∷ (2 ∷ 0 ∷ []) ∷ (16 ∷ 7 ∷ 0 ∷ []) ∷ []
+unfolding allPlaces firstFree tally
+update-running = refl

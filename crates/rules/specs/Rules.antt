@@ -1,4 +1,4 @@
--- THE RULES (document 01, "The eight events" and "When the nucleus says no"; document 02, P1), in the documents' order and words.
+-- THE RULES (document 01, "The eight events" and "When the nucleus says no"; document 02, P1 and P2), in the documents' order and words.
 -- No proofs here: what is proved of the rules is in the crate `order`.
 use Prim.Native.Nat.{ℕ, zero, suc, _+_}
 use mathlib.Core.List.{List, [], _∷_, _++_}
@@ -132,7 +132,7 @@ abbrev pub send : Number → Word → Model → Model
 send d w m = sendTo (placeOf m d) (mine m) d w m
 
 -- ---- 3. Receive from N or any. If the inbox has a match, the first is taken: the caller's answer is 0, sender, word; the sender now awaits reply; the
--- caller keeps running. Otherwise the caller receives. A named thread need not be alive: the caller then waits.
+-- caller keeps running. Otherwise the caller receives.
 
 -- the sender at p leaves the inbox of the place c, and awaits the reply with partner and word as they were
 abbrev pub awaits : Place → Place → Model → Model
@@ -177,21 +177,31 @@ abbrev pub handedBack : Number → Place → List Place → Model → Model
 handedBack n r [] m = m
 handedBack n r (p ∷ l) m = handedBack n r l (woken p 16 n (thread m p .word) (relined (inbox r) l m))
 
--- does the thread at p await the reply of the number n
-abbrev pub awaitsAt : Place → Number → Model → Bool
-awaitsAt p n m = eqb (thread m p .standing) Awaiting && eqb (thread m p .partner) n
+-- A group of those who wait in vain: which threads it picks, and whose number and what word each of them gets with answer 16.
+pub record Group : Type 0 where
+  pub picks : Thread → Bool
+  pub who : Thread → Number
+  pub word : Thread → Word
+
+-- those of the places l whom the group picks get their answer, in this order, and join ready
+abbrev pub letGo : Group → List Place → Model → Model
+letGo g [] m = m
+letGo g (p ∷ l) m = letGo g l (cond (g .picks (thread m p)) (woken p 16 (g .who (thread m p)) (g .word (thread m p)) m) m)
 
 -- .. then those awaiting its reply by rising place, get answer 16, T, and their own word back, and join ready.
-abbrev pub letGo : Number → List Place → Model → Model
-letGo n [] m = m
-letGo n (p ∷ l) m = letGo n l (cond (awaitsAt p n m) (woken p 16 n (thread m p .word) m) m)
+abbrev pub awaiting : Number → Group
+awaiting n = record { picks = λ t. eqb (t .standing) Awaiting && eqb (t .partner) n; who = λ t. n; word = λ t. t .word }
 
--- T's place is cleaned. Others receiving from T go on waiting.
+-- Ending T shall also wake those receiving from T, by rising place, after the other two groups, with answer 16, T, 0.
+abbrev pub listening : Number → Group
+listening n = record { picks = λ t. eqb (t .standing) Receiving && eqb (t .partner) n; who = λ t. n; word = λ t. 0 }
+
+-- T's place is cleaned.
 abbrev pub endAt : Place → Number → Model → Model
 endAt p n m =
     let m₁ = outOfLine p m in
     let m₂ = handedBack n p (line m₁ (inbox p)) m₁ in
-    put p vacant (letGo n allPlaces m₂)
+    put p vacant (letGo (listening n) allPlaces (letGo (awaiting n) allPlaces m₂))
 
 abbrev pub end : Number → Model → Model
 end n m = endAt (placeOf m n) n m
@@ -299,11 +309,17 @@ noDevice i = not (ltb i devices)
 abbrev pub ownNumber : Model → Number → Bool
 ownNumber m n = eqb n (mine m)
 
--- 4: send, reply or end: number not live
+-- 4: send, receive, reply or end: number not live (receive: 255 is any)
 abbrev pub notLive : Model → Number → Bool
 notLive m n = not (inUse m n)
 
+abbrev pub deadSource : Model → Number → Bool
+deadSource m n = not (eqb n nobody) && notLive m n
+
 -- 5: reply: T doesn't await the caller's reply
+abbrev pub awaitsAt : Place → Number → Model → Bool
+awaitsAt p n m = awaiting n .picks (thread m p)
+
 abbrev pub notAwaiting : Model → Number → Bool
 notAwaiting m t = not (awaitsAt (placeOf m t) (mine m) m)
 
@@ -314,7 +330,7 @@ full m = eqb (live m) places
 abbrev pub refusal : Event → Model → Code
 refusal Create m = full m gives 6 else 0
 refusal (Send d w) m = idle m gives 1 else noNumber (d .0) gives 2 else ownNumber m (d .0) gives 3 else notLive m (d .0) gives 4 else 0
-refusal (Receive n) m = idle m gives 1 else noSource (n .0) gives 2 else ownNumber m (n .0) gives 3 else 0
+refusal (Receive n) m = idle m gives 1 else noSource (n .0) gives 2 else ownNumber m (n .0) gives 3 else deadSource m (n .0) gives 4 else 0
 refusal (Reply t w) m =
     idle m gives 1 else noNumber (t .0) gives 2 else ownNumber m (t .0) gives 3 else notLive m (t .0) gives 4 else notAwaiting m (t .0) gives 5 else 0
 refusal (End t) m = noNumber (t .0) gives 2 else notLive m (t .0) gives 4 else 0
@@ -356,3 +372,13 @@ outcome e m = record { state = next e m; code = refusal e m; choice = choice (ne
 abbrev pub after : List Event → Model → Model
 after [] m = m
 after (e ∷ es) m = after es (next e m)
+
+-- ---- The update load (document 02, P2) takes what the old rules call consistent ..
+
+-- .. and wakes each receiver that names a dead thread, by rising place, with 16, the dead number, 0; ..
+abbrev pub deserted : Model → Group
+deserted m = record { picks = λ t. eqb (t .standing) Receiving && deadSource m (t .partner); who = λ t. t .partner; word = λ t. 0 }
+
+-- .. then, if nobody runs, the front of ready does.
+abbrev pub updated : Model → Model
+updated m = dispatched (letGo (deserted m) allPlaces m)

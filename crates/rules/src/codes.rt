@@ -1,8 +1,8 @@
 // The codes of document 01 ("When the nucleus says no"), each by one name.
 pub const DONE: u8 = 0;
 
-// An event: nobody runs who could call, the number is none (or the index no device's), it is the caller's own, it is not live, its thread awaits no reply of the caller's, and no
-// place is empty.
+// An event: nobody runs who could call, the number is none (or the index no device's), it is the caller's own, it is not live, its thread awaits no reply of
+// the caller's, and no place is empty.
 pub const IDLE: u8 = 1;
 
 pub const NO_NUMBER: u8 = 2;

@@ -16,8 +16,8 @@ use Rattle.lists.specs.Only.{only-distinct, only-few, only-tally}
 use Rattle.lists.specs.Tables.{bit-low, tally-ext}
 use Rattle.lists.specs.Bytes.{twoBytes}
 use Rattle.rules.specs.Model.{Place, places, Model, inbox, thread, line, allPlaces, livesAt, live}
-use Rattle.rules.specs.Consistent.{belongs, Consistent}
-use Rattle.order.specs.Sound.{Sound, sound}
+use Rattle.rules.specs.Consistent.{belongs, OldConsistent, Consistent}
+use Rattle.order.specs.Sound.{Sound, old-sound}
 use Rattle.order.specs.Stood.{stands-once, no-place}
 use Rattle.saving.specs.Format.{newest, headLength, entryLength, bodyLength, livePlaces, bodyOf, bodies, contents, queuesIn, joined, queueLengths, queues, firstBody, tail, head, encodeAs, encode}
 use Rattle.saving.specs.Queues.{inbox-at, lengths-length, joined-append}
@@ -151,14 +151,14 @@ module _ (m : Model) (S : Sound m) where
       omega arith
 
 -- ---- the longest
-pub longest-as : (row : Row) (m : Model) → row .queues ≤ queueCount → Consistent m → length (encodeAs row m) ≤ longestImage
+pub longest-as : (row : Row) (m : Model) → row .queues ≤ queueCount → OldConsistent m → length (encodeAs row m) ≤ longestImage
 longest-as row m h C =
     let a = encode-length row m in
     let b = tail-length row m in
     let c = bodies-length m (livePlaces m) in
     let e = live-few m in
-    let f = queues-few m (sound m C) row h in
+    let f = queues-few m (old-sound m C) row h in
     omega arith
 
 pub longest : (m : Model) → Consistent m → length (encode m) ≤ longestImage
-longest m C = longest-as newest m (omega arith) C
+longest m C = longest-as newest m (omega arith) (C .old)

@@ -2,12 +2,13 @@
 use Prim.Native.Nat.{ℕ, _+_, _≤_, _<_}
 use mathlib.Core.Path.{_≡_, refl, sym, ap, _∙_}
 use mathlib.Core.List.{List}
+use mathlib.Core.Bool.{false}
 use native.Mathlib.Omega.{arith}
 use lib.ListN.{length, take, drop, length-append}
 use lib.Seq.{length-take-le, take-at}
 use Rattle.lists.specs.Sizes.{queueCount}
 use Rattle.lists.specs.Laid.{laid, Wrote, laid-front}
-use Rattle.table.specs.Cells.{shown, Stands}
+use Rattle.table.specs.Cells.{shown, StandsBy}
 use Rattle.table.specs.declared.Desk.{Desk}
 use Rattle.nucleus.specs.View.{deskOf, view, Consists}
 use Rattle.nucleus.specs.declared.State.{State}
@@ -19,8 +20,9 @@ use Rattle.saving.specs.declared.format.Row.{Row}
 pub save-14 : {s : State} (before : List ℕ) → (Consists s → ⊥) → Saves s before 14 0 before
 save-14 before n = inconsistent n (record { code-is = refl; length-is = refl; bytes-are = refl })
 
-pub save-stands : {s : State} {d : Desk} → Consists s → d ≡ deskOf s → Stands d (s .blocks) (s .words) (s .lines)
-save-stands k e = rw e k
+-- what is written need be consistent by the old rules only
+pub save-stands : {s : State} {d : Desk} → Consists s → d ≡ deskOf s → StandsBy false d (s .blocks) (s .words) (s .lines)
+save-stands k e = rw e (record { whole = k .whole; filled = k .filled; consistent = k .consistent .old })
 
 pub save-few : {row : Row} → row ≡ newest → row .queues ≤ queueCount
 save-few e = rw e (omega arith)

@@ -2,7 +2,7 @@
 use Prim.Native.Nat.{ℕ, _+_, _*_, _≤_, _<_}
 use mathlib.Core.Path.{_≡_, sym, ap, _∙_}
 use mathlib.Core.List.{List, [], _∷_, _++_}
-use mathlib.Core.Bool.{Bool}
+use mathlib.Core.Bool.{Bool, false}
 use native.Mathlib.Omega.{arith}
 use lib.ListN.{length, drop, length-append}
 use Rattle.lists.specs.Sizes.{queueCount}
@@ -12,7 +12,7 @@ use Rattle.lists.specs.Laid.{laid, Wrote, laid-length, wrote-then, wrote-front,
 use Rattle.lines.specs.Lines.{lineOf, Tidy}
 use Rattle.filled.specs.Filled.{width, wordOf}
 use Rattle.rules.specs.Model.{places, lineCount, Model, line, live}
-use Rattle.table.specs.Cells.{shown, standsAt, Stands}
+use Rattle.table.specs.Cells.{shown, standsAt, StandsBy}
 use Rattle.table.specs.Rows.{line-at}
 use Rattle.table.specs.Choose.{live-is}
 use Rattle.table.specs.declared.Desk.{Desk}
@@ -135,7 +135,7 @@ module _ (row : Row) (l : List ℕ) (y x n k : ℕ) (s : List ℕ) (room : headL
           rw (ex, ey) at (wrote-then both w (omega arith))
 
 -- ---- the whole
-module _ (row : Row) (few : row .queues ≤ queueCount) {d : Desk} {b w l : List ℕ} (k : Stands d b w l) where
+module _ (row : Row) (few : row .queues ≤ queueCount) {d : Desk} {b w l : List ℕ} (k : StandsBy false d b w l) where
   whole-length : length (encodeAs row (shown d b w l)) ≡ headLength row + length (tailIn row b w l)
   whole-length = encode-length row (shown d b w l) ∙ ap (λ (t : List ℕ). headLength row + length t) (tail-same (d .last .0) (d .running .0) b w l row)
 

@@ -1,6 +1,7 @@
 // Saving: the image of a consistent state is written from front to back, as specs/Format.antt has it; the head comes last, since it tells the total.
 // Each function that writes gives the position behind what it wrote, and leaves every other byte as it was (`Wrote`).
 ghost use mathlib.Core.Path.{_≡_};
+ghost use mathlib.Core.Bool.{false};
 ghost use mathlib.Core.List.{[], _∷_};
 ghost use Prim.Native.Nat.{_+_, _*_, _%_, _≤_, _<_};
 ghost use lib.ListN.{length};
@@ -8,7 +9,7 @@ ghost use Rattle.lists.specs.Sizes.{places, queueCount, lineCount};
 ghost use Rattle.lists.specs.Bytes.{twoBytes, wordBytes};
 ghost use Rattle.lists.specs.Laid.{Wrote};
 ghost use Rattle.lines.specs.Lines.{lineOf, Tidy};
-ghost use Rattle.table.specs.Cells.{asThread, shown, Stands};
+ghost use Rattle.table.specs.Cells.{asThread, shown, StandsBy};
 ghost use Rattle.nucleus.specs.View.{Consists};
 ghost use Rattle.saving.specs.Format.{headLength, entryLength, threadBytes};
 ghost use Rattle.saving.specs.Longest.{longestImage};
@@ -284,9 +285,10 @@ fn put_head(out: &mut [u8], row: Row, l: &Links, d: Desk, live: u8, total: u32) 
     put(out, next, &last)
 }
 
-// Writes the image of a consistent state, in the edition of the row, and gives its length. The head comes last: it tells the total.
+// Writes the image of a state that is consistent, by the old rules at least, in the edition of the row, and gives its length. The head comes last: it tells the
+// total.
 pub fn write(row: Row, b: &Blocks, w: &Words, l: &Links, d: Desk, out: &mut [u8]) -> usize
-    requires { ⌜ (row .queues ≤ queueCount) × Stands d (now b) (now w) (now l) × (longestImage ≤ length (now out)) ⌝ }
+    requires { ⌜ (row .queues ≤ queueCount) × StandsBy false d (now b) (now w) (now l) × (longestImage ≤ length (now out)) ⌝ }
     ensures { λ r. ⌜ Written row (shown d (now (b .entry)) (now (w .entry)) (now (l .entry))) (now (out .entry)) (now (out .exit)) r ⌝ }
 {
     let live = filled::count(d.filled);

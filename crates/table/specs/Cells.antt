@@ -1,7 +1,7 @@
 -- The lent arrays, and the rules' model that they stand for.
 use mathlib.Core.Path.{_≡_, refl}
 use mathlib.Core.List.{List}
-use mathlib.Core.Bool.{Bool, not}
+use mathlib.Core.Bool.{Bool, true, not}
 use Prim.Native.Nat.{ℕ, _+_, _*_}
 use lib.Dec.{eqb}
 use lib.ListN.{length, getD}
@@ -10,7 +10,7 @@ use Rattle.lines.specs.Lines.{lineOf, Tidy}
 use Rattle.filled.specs.Filled.{wordOf}
 use Rattle.rules.specs.Model as Rules
 use Rattle.rules.specs.Model.{places, queueCount, lineCount, Empty, Model}
-use Rattle.rules.specs.Consistent.{Consistent}
+use Rattle.rules.specs.Consistent.{ConsistentBy}
 use Rattle.table.specs.declared.Desk.{Desk}
 use Rattle.table.specs.declared.Thread.{Thread}
 
@@ -68,10 +68,14 @@ Filled x b = x ≡ wordOf places (standsAt b)
 
 -- The desk and the arrays are a consistent nucleus: laid out in order, and of a consistent model. What lies in a line is in order, what does not is
 -- clean (Tidy), and a clean place is clean in every row (Consistent, `clean`); so no two layouts have the same model (Rows; `settled` of the nucleus).
-pub record Stands (d : Desk) (b w l : List ℕ) : Type 0 where
+-- By the rules as they are, or (strict is false) by the old ones.
+pub record StandsBy (strict : Bool) (d : Desk) (b w l : List ℕ) : Type 0 where
   pub whole : Whole b w l
   pub filled : Filled (d .filled) b
-  pub consistent : Consistent (shown d b w l)
+  pub consistent : ConsistentBy strict (shown d b w l)
+
+abbrev pub Stands : Desk → List ℕ → List ℕ → List ℕ → Type 0
+Stands d b w l = StandsBy true d b w l
 
 -- the code's thread, as the rules have it
 abbrev pub asThread : Thread → Rules.Thread

@@ -76,7 +76,7 @@ legible {d} {b} {w} {l} s = record {
   seat = λ k. elim (decLt (d .running .0) places) [
     | yes h ↦ h
     | no h ↦
-        let e : _≡_ {A = ℕ} 0 1 = sym (ap (λ (t : Thread). t .standing) (thread-past (d .last .0) (d .running .0) b w l (d .running .0) (omega arith))) ∙ s .consistent .busy k in
+        let e : _≡_ {A = ℕ} 0 1 = sym (ap (λ (t : Thread). t .standing) (thread-past (d .last .0) (d .running .0) b w l (d .running .0) (omega arith))) ∙ s .consistent .old .busy k in
         absurd (omega arith)
   ];
 }

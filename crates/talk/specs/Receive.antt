@@ -4,15 +4,17 @@ use mathlib.Core.List.{List}
 use mathlib.Core.Bool.{Bool, true, false, _&&_}
 use Prim.Native.Nat.{ℕ, _+_, _≤_, _<_}
 use native.Mathlib.Omega.{arith}
-use borrow.Author.Tests.{eq-eqb, ne-eqb}
+use borrow.Author.Tests.{eqb-true, eqb-false, eq-eqb, ne-eqb}
+use lib.Dec.{eqb}
 use lib.ListN.{getD}
 use Rattle.lists.specs.Lists.{none, count, firstOf}
+use Rattle.lists.specs.Laws.{by-test}
 use Rattle.lists.specs.Counts.{some-among}
 use Rattle.lists.specs.Search.{first-ext-in, found-in}
 use Rattle.lines.specs.Lines.{lineOf}
 use Rattle.rules.specs.Values.{nobody}
 use Rattle.rules.specs.Model.{places, lastNumber, Awaiting, Receiving, Thread, Model, inbox, thread, line}
-use Rattle.rules.specs.Rules.{mine, stands, told, leave, wants, takes, receiveFrom, receive, noNumber, noSource, ownNumber, refusal}
+use Rattle.rules.specs.Rules.{mine, stands, told, leave, wants, takes, receiveFrom, receive, noNumber, noSource, ownNumber, notLive, deadSource, refusal}
 use Rattle.rules.specs.declared.Number.{Number}
 use Rattle.rules.specs.declared.Event.the-variants.{Receive}
 use Rattle.order.specs.Accepted.{accepted}
@@ -25,10 +27,11 @@ use Rattle.events.specs.declared.Outcome.{Outcome}
 use Rattle.verbs.specs.Steps.{Steps, Turns, changing, running, then, stays, turns}
 use Rattle.events.specs.Events.{Did, answered, refused, done, no-word}
 use Rattle.verbs.specs.Caller.{sounds, caller-place}
-use Rattle.verbs.specs.Address.{Names}
+use Rattle.verbs.specs.Address.{addressing, Addresses}
+use Rattle.verbs.specs.declared.address.Address.{Address}
 use Rattle.talk.specs.Pick.{taken, picked}
 
--- ---- codes 1 to 3
+-- ---- codes 1 to 4
 
 abbrev pub Sources : Desk → List ℕ → Number → ℕ → Type 0
 Sources d b n r = (w l : List ℕ) → Stands d b w l → r ≡ refusal (Receive n) (shown d b w l)
@@ -38,11 +41,15 @@ and-true true = refl
 and-true false = refl
 
 module _ {d : Desk} {b : List ℕ} (n : Number) where
-  -- a number is named
-  pub source-named : (n .0 ≡ nobody → ⊥) → {c : ℕ} → Names d b (n .0) c → Sources d b n c
-  source-named z e w l k =
+  -- a number is named: refused as for a send
+  pub source-named : (n .0 ≡ nobody → ⊥) → {r : Address} → Addresses d b (n .0) r → Sources d b n (r .code)
+  source-named z {r} e w l k =
+      let m = shown d b w l in
       let s : noSource (n .0) ≡ noNumber (n .0) = rw (ne-eqb (n .0) nobody z) (and-true (noNumber (n .0))) in
-      e w l k ∙ sym (rw s)
+      let t : deadSource m (n .0) ≡ notLive m (n .0) = rw (ne-eqb (n .0) nobody z) in
+      let a = e w l k in
+      let g : addressing m (n .0) 0 ≡ r .code = by-test (eqb (r .code) 0) (λ u. let y = eqb-true _ _ u in a .past y 0 ∙ sym y) (λ u. a .not (eqb-false _ _ u) 0) in
+      sym g ∙ sym (rw (s, t))
 
   module _ (any : n .0 ≡ nobody) where
     pub source-1 : d .running .0 ≡ none → Sources d b n 1

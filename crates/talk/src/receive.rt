@@ -20,7 +20,7 @@ use rules::codes;
 use table::Blocks;
 use table::Desk;
 use table::Words;
-use verbs::address::names;
+use verbs::address::whom;
 
 // Why the caller may not receive from n, or from any. DONE where it may.
 fn source(b: &Blocks, d: Desk, n: Number) -> u8
@@ -28,7 +28,8 @@ fn source(b: &Blocks, d: Desk, n: Number) -> u8
     ensures { λ r. ⌜ Sources d (now (b .entry)) n r ⌝ }
 {
     if n.0 != rules::NOBODY {
-        return names(b, d, n);
+        let a = whom(b, d, n);
+        return a.code;
     }
     if d.running.0 == lines::NONE {
         return codes::IDLE;

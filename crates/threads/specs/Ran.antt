@@ -30,7 +30,7 @@ pub same-event : {d : Desk} {b w l : List ℕ} {e f : Event} {r : Outcome} {b′
 same-event z t = rw z t
 
 -- a set that agrees with who lives is that of the blocks
-filled-by : (d : Desk) (b w l : List ℕ) (x : ℕ) (f : ℕ → Bool) → x ≡ wordOf places f → ((p : ℕ) → livesAt (shown d b w l) p ≡ f p) → Filled x b
+pub filled-by : (d : Desk) (b w l : List ℕ) (x : ℕ) (f : ℕ → Bool) → x ≡ wordOf places f → ((p : ℕ) → livesAt (shown d b w l) p ≡ f p) → Filled x b
 filled-by d b w l x f e g = e ∙ word-ext places f (standsAt b) (λ p h. sym (g p) ∙ lives-shown d b w l p h)
 
 -- ---- and then the front of ready is started

@@ -1,4 +1,5 @@
-// Vectors of load, and of looking up: an image, and numbers. The line says load's code, the image saved again, the choice, and the part of each number.
+// Vectors of load, of looking up, and of the update load: an image, and numbers. The line says load's code, the image saved again, the choice, and the part
+// of each number; then the update's code, and the image of the state that it gives.
 use crate::fields;
 use rules::Number;
 
@@ -7,6 +8,7 @@ pub fn run(vector: &[u8]) {
     console::text(b"load ");
     loaded(image);
     looked(image, fields::second(vector));
+    updated(image);
 }
 
 fn loaded(bytes: &[u8]) {
@@ -40,4 +42,13 @@ fn comma(i: usize) {
 fn part(bytes: &[u8], n: Number) {
     console::say(n.0 as u64, b":");
     console::hex(image::look_up(bytes, n));
+}
+
+// A refused update gives the fresh state, so there is an image for every vector.
+fn updated(bytes: &[u8]) {
+    let r = image::update(bytes);
+    let s = r.state;
+    console::text(b" ");
+    console::say(r.code as u64, b" ");
+    console::image_of(s);
 }

@@ -25,7 +25,7 @@ pub fn find(b: &Blocks, n: Number) -> Place
 }
 
 // Why the caller may not name n: nobody runs, n is no number, or n is the caller's own. DONE where it may.
-pub fn names(b: &Blocks, d: Desk, n: Number) -> u8
+fn names(b: &Blocks, d: Desk, n: Number) -> u8
     requires { ⌜ Seated d ⌝ }
     ensures { λ r. ⌜ Names d (now (b .entry)) (n .0) r ⌝ }
 {

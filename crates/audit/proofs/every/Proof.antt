@@ -15,10 +15,10 @@ use Rattle.audit.proofs.every.Statement.{statement}
 use Rattle.audit.proofs.every.Tie as tie
 
 abbrev Inv-loop : tie.InvT-loop
-Inv-loop b w at who running p₀ p = (p ≤ places) × ((i : ℕ) → i < p → placeTest (modelOf 0 (running .0) b w []) at who i ≡ true)
+Inv-loop strict b w at who running p₀ p = (p ≤ places) × ((i : ℕ) → i < p → placeTest strict (modelOf 0 (running .0) b w []) at who i ≡ true)
 
 abbrev μ-loop : tie.MeasureT-loop
-μ-loop b w at who running p₀ p = places - p
+μ-loop strict b w at who running p₀ p = places - p
 
 loop-holds : tie.Need-loop-holds Inv-loop μ-loop
 loop-holds c = (omega arith, λ i h. absurd (omega arith))

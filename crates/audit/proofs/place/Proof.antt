@@ -1,4 +1,4 @@
--- `place` meets its contract: four tests, of the thread that stands there.
+-- `place` meets its contract: five tests, of the thread that stands there.
 use borrow.Author.Needs.{needs}
 use mathlib.Core.Path.{sym, ap, _∙_}
 use mathlib.Core.List.{[]}
@@ -28,28 +28,32 @@ element-copy-out-seated-2 c = search needs
 home-requires : tie.Need-home-requires
 home-requires c κs = search needs
 
+unheard-requires : tie.Need-unheard-requires
+unheard-requires c κs = search needs
+
+names-live-requires : tie.Need-names-live-requires
+names-live-requires c κs = search needs
+
 fits-requires : tie.Need-fits-requires
 fits-requires c κs = search needs
 
 runs-alone-requires : tie.Need-runs-alone-requires
 runs-alone-requires c κs = search needs
 
-unheard-requires : tie.Need-unheard-requires
-unheard-requires c κs = search needs
-
 returns : tie.Need-returns
 returns c =
-    let at-fits2 = c .before .before in
-    let at-home = at-fits2 .before in
+    let at-names = c .before .before in
+    let at-unheard = at-names .before in
+    let at-home = at-unheard .before in
     let at-wide = at-home .before .before .before .before in
     let at-read = at-wide .before in
     let f = at-read .before in
     let t = at-read .read in
-    seat-test (modelOf 0 (f .args .running .0) (f .args .b .now) (f .args .w .now) []) (f .args .at .now) (f .args .who .now) (f .args .p .0) _ _
-    (asThread (t .result)) _ _ _
+    seat-test (f .args .strict) (modelOf 0 (f .args .running .0) (f .args .b .now) (f .args .w .now) []) (f .args .at .now) (f .args .who .now) (f .args .p .0) _ _
+    (asThread (t .result)) _ _ _ _
     (t .ensures ∙ sym (thread-at 0 (f .args .running .0) (f .args .b .now) (f .args .w .now) [] (f .args .p .0) (f .pre)))
     (ap (λ (n : ℕ). getD (f .args .who .now) n 0) (at-wide .wide .ensures .0))
-    (at-fits2 .fits2 .ensures) (c .before .runs-alone .ensures) (at-home .home .ensures) (c .unheard .ensures (f .args .w .now))
+    (c .before .fits2 .ensures) (c .runs-alone .ensures) (at-home .home .ensures) (at-unheard .unheard .ensures (f .args .w .now)) (at-names .names-live .ensures)
 
 pub place-spec : {M : Type 1} → statement M
 place-spec =
@@ -61,7 +65,8 @@ place-spec =
     cast-seated
     element-copy-out-seated-2
     home-requires
+    unheard-requires
+    names-live-requires
     fits-requires
     runs-alone-requires
-    unheard-requires
     returns)

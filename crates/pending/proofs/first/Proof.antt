@@ -20,7 +20,7 @@ add-t6 : tie.Need-add-t6
 add-t6 c = search needs
 
 returns-2 : tie.Need-returns-2
-returns-2 c = high-first (c .before .before .before .before .args .s) (c .before .before .if1 .left) (c .if2 .taken)
+returns-2 c = high-first (c .before .before .before .before .args .s) (c .before .before .if1 .left) (omega (arith, c .if2 .taken))
 
 returns-3 : tie.Need-returns-3
 returns-3 c = none-first (c .before .before .before .before .args .s) (c .before .before .if1 .left) (c .if2 .left)

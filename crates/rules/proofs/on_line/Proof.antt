@@ -12,7 +12,7 @@ returns-2 : tie.Need-returns-2
 returns-2 c = let a = c .before .before .args in rw (le-ltb (a .line) 3 (omega arith), lt-ltb 6 (a .line) (c .if2 .taken))
 
 returns-3 : tie.Need-returns-3
-returns-3 c = let a = c .before .before .before .args in rw (le-ltb (a .line) 3 (omega arith), le-ltb 6 (a .line) (omega arith), lt-ltb 7 (a .device) (c .if3 .taken))
+returns-3 c = let a = c .before .before .before .args in rw (le-ltb (a .line) 3 (omega arith), le-ltb 6 (a .line) (omega arith), lt-ltb 7 (a .device) (omega (arith, c .if3 .taken)))
 
 mul-t5 : tie.Need-mul-t5
 mul-t5 c = search needs

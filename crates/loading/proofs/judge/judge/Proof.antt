@@ -4,7 +4,7 @@ use mathlib.Core.Path.{refl}
 use borrow.Author.Tests.{not-true, not-false}
 use Rattle.saving.specs.Editions.{known-few}
 use Rattle.loading.specs.Loads.{foreign, accepted}
-use Rattle.loading.specs.Judges.{row-known, bare-holds, foreign-not, foreign-full, foreign-other}
+use Rattle.loading.specs.Judges.{row-known, old-consists, bare-holds, foreign-not, foreign-full, foreign-other}
 use borrow.Author.Needs.{needs}
 use Rattle.loading.proofs.judge.judge.Statement.{statement}
 use Rattle.loading.proofs.judge.judge.Tie as tie
@@ -17,23 +17,23 @@ candidate-requires c κs =
     let start = c .before .before in
     known-few (row-known (start .args .image .now) (c .row-at .ensures) (start .pre))
 
-consistent-requires : tie.Need-consistent-requires
-consistent-requires c κs = search needs
+consists-requires : tie.Need-consists-requires
+consists-requires c κs = search needs
 
 refuse-requires : tie.Need-refuse-requires
 refuse-requires c κs = search needs
 
 returns : tie.Need-returns
 returns c =
-    let at-consistent = c .before .before in
-    let at-candidate = at-consistent .before in
-    foreign (foreign-not (at-candidate .before .row-at .ensures) (at-candidate .candidate .ensures) (at-consistent .consistent .ensures .no (not-true _ (c .before .if1 .taken))))
+    let at-consists = c .before .before in
+    let at-candidate = at-consists .before in
+    foreign (foreign-not (at-candidate .before .row-at .ensures) (at-candidate .candidate .ensures) (at-consists .consists .ensures .no (not-true _ (c .before .if1 .taken))))
     (c .refuse .ensures)
 
 holds-requires : tie.Need-holds-requires
 holds-requires c κs =
     let at-if1 = c .before .before in
-    at-if1 .before .consistent .ensures .yes (not-false _ (at-if1 .if1 .left)) .whole .lines
+    at-if1 .before .consists .ensures .yes (not-false _ (at-if1 .if1 .left)) .whole .lines
 
 refuse-requires-2 : tie.Need-refuse-requires-2
 refuse-requires-2 c κs = search needs
@@ -50,7 +50,7 @@ same-requires c κs =
     let at-if1 = c .before .before .before .before in
     let at-row = at-if1 .before .before .before in
     let start = at-row .before .before in
-    (known-few (row-known (start .args .image .now) (at-row .row-at .ensures) (start .pre)), at-if1 .before .consistent .ensures .yes (not-false _ (at-if1 .if1 .left)))
+    (known-few (row-known (start .args .image .now) (at-row .row-at .ensures) (start .pre)), old-consists _ (at-if1 .before .consists .ensures .yes (not-false _ (at-if1 .if1 .left))))
 
 refuse-requires-3 : tie.Need-refuse-requires-3
 refuse-requires-3 c κs = search needs
@@ -68,11 +68,11 @@ returns-4 c =
     let at-if2 = at-same .before in
     let at-holds = at-if2 .before in
     let at-if1 = at-holds .before .before .before in
-    let at-consistent = at-if1 .before in
-    let at-candidate = at-consistent .before in
+    let at-consists = at-if1 .before in
+    let at-candidate = at-consists .before in
     let at-row = at-candidate .before in
     let start = at-row .before .before in
-    let k = at-consistent .consistent .ensures .yes (not-false _ (at-if1 .if1 .left)) in
+    let k = at-consists .consists .ensures .yes (not-false _ (at-if1 .if1 .left)) in
     accepted (record {
       told = refl;
       consists = k;
@@ -93,7 +93,7 @@ judge-spec =
     (tie.spec
     row-at-requires
     candidate-requires
-    consistent-requires
+    consists-requires
     refuse-requires
     returns
     holds-requires

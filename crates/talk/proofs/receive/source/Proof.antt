@@ -5,11 +5,11 @@ use Rattle.talk.specs.Receive.{source-named, source-1, source-0}
 use Rattle.talk.proofs.receive.source.Statement.{statement}
 use Rattle.talk.proofs.receive.source.Tie as tie
 
-names-requires : tie.Need-names-requires
-names-requires c κs = search needs
+whom-requires : tie.Need-whom-requires
+whom-requires c κs = search needs
 
 returns : tie.Need-returns
-returns c = source-named (c .before .before .before .args .n) (c .before .if1 .taken) (c .names .ensures)
+returns c = source-named (c .before .before .before .args .n) (omega (arith, c .before .if1 .taken)) (c .whom .ensures)
 
 returns-2 : tie.Need-returns-2
 returns-2 c = source-1 (c .before .before .before .before .args .n) (omega (arith, c .before .before .if1 .left)) (c .if2 .taken)
@@ -18,4 +18,4 @@ returns-3 : tie.Need-returns-3
 returns-3 c = source-0 (c .before .before .before .before .args .n) (omega (arith, c .before .before .if1 .left)) (c .if2 .left)
 
 pub source-spec : {M : Type 1} → statement M
-source-spec = tie.close (tie.spec names-requires returns returns-2 returns-3)
+source-spec = tie.close (tie.spec whom-requires returns returns-2 returns-3)

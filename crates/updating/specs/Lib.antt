@@ -1,0 +1,4 @@
+pub mod Updates
+pub mod Deserted
+pub mod CarriesOver
+pub mod Counted
