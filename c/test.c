@@ -338,14 +338,15 @@ static void load_row(char **f) {
     }
 }
 
-/* image log > code records bytes choice final */
+/* image log > code records bytes choice final. Where the log is too long, the table has the image given for what is saved then. */
 static void replay_row(char **f) {
     struct part im = bytes_in(f[0]), log = bytes_in(f[1]), after = bytes_in(f[6]);
     uint8_t code = (uint8_t)number_in(f[2]);
     struct chosen c = choice_in(f[5]);
+    if (code == RUMQATISS_LONG_LOG) after = none;
     try_replay(im, log, ROOM, code, c, number_in(f[3]), number_in(f[4]), after);
     try_replay(im, log, after.len, code, c, number_in(f[3]), number_in(f[4]), after);
-    try_replay(im, log, after.len - 1, RUMQATISS_SHORT_BUFFER, choice_of(im), 0, 0, none);
+    if (after.len != 0) try_replay(im, log, after.len - 1, RUMQATISS_SHORT_BUFFER, choice_of(im), 0, 0, none);
 }
 
 static FILE *open_table(const char *path) {
@@ -358,7 +359,7 @@ static FILE *open_table(const char *path) {
 
 /* The next line without its end, or NULL where there is none. It stands until the next is read. */
 static char *next_line(FILE *in) {
-    static char text[8192];
+    static char text[2 * RUMQATISS_LONGEST_LOG + 8192];  /* a log in hex, and the images beside it */
     line++;
     if (fgets(text, sizeof text, in) == NULL) return NULL;
     char *end = strchr(text, '\n');
@@ -560,6 +561,21 @@ static void try_end(void) {
     if (code != RUMQATISS_DONE) broken("a log was expected");
     try_board((struct part){ b, len }, bytes_in(end), ROOM, MARK, RUMQATISS_DONE, c, RUMQATISS_NOBODY, after);
     try_board(after, bytes_in(receive), ROOM, MARK, RUMQATISS_NOT_LIVE, c, RUMQATISS_NOBODY, none);
+}
+
+/* The last number given is 253, and thread 0 lives alone: a create gives 1, but where the thread's answer names 1, it gives 2. */
+static void try_named(void) {
+    static const uint8_t create = RUMQATISS_CREATE, answers[2][6] = { { 0, 255 }, { 16, 1, 0x0d, 0xf0, 0xad, 0x8b } };
+    struct part rec = { &create, 1 };
+    for (line = 0; line < 2; line++) {
+        uint8_t given = (uint8_t)(1 + line), alone[73] = { 2, 253, 0, 1, [54] = 73, [58] = 60, [60] = 1, 255 };
+        uint8_t pair[91] = { 2, given, 0, 2, 1, [54] = 91, [58] = 65, [60] = 1, given, 78, [64] = 1, 1, 255, [78] = 2, 255, [85] = 255 };
+        struct part before = { alone, sizeof alone }, after = { pair, sizeof pair };
+        memcpy(alone + 66, answers[line], 6);
+        memcpy(pair + 71, answers[line], 6);
+        try_board(before, rec, ROOM, MARK, RUMQATISS_DONE, run_0, given, after);
+        try_replay(before, rec, ROOM, RUMQATISS_DONE, run_0, 1, 1, after);
+    }
 }
 
 /* The first thread waits at a device, which then interrupts. */
@@ -822,6 +838,8 @@ int main(int argc, char **argv) {
     try_refusals();
     table = "end";
     try_end();
+    table = "a number that an answer names";
+    try_named();
     table = "devices";
     try_devices();
     table = "editions";
@@ -840,7 +858,8 @@ int main(int argc, char **argv) {
     try_large();
     table = "null pointers";
     try_nulls();
-    printf("limits: record lengths, refusals, an end, devices, editions, updates, the longest images, large buffers and null pointers agree\n");
+    printf("limits: record lengths, refusals, an end, a named number, devices, editions, updates, the longest images, large buffers and "
+           "null pointers agree\n");
     if (stack_used() > RUMQATISS_STACK) {
         printf("stack: %d bytes used, %d promised\n", (int)stack_used(), RUMQATISS_STACK);
         return 1;

@@ -39,7 +39,8 @@
    An image of edition 1, as builds with rules 1 wrote it, is taken too. Nobody in it waits at a device, and its head lacks the 48
    counts: it has 8 bytes. The image that comes of it is of edition 2; rumqatiss_replay with an empty log changes nothing else of it.
    Builds with rules 1 and 2 let a thread receive from a number that no live thread has. An image with such a thread, of either
-   edition, is refused with 10 now, by all but rumqatiss_update.
+   edition, is refused with 10 now, by all but rumqatiss_update. Builds with rules 1 to 3 gave a new thread a number that a live
+   thread's answer still named, where it came next. Images did not change with that: one of rules 3 is one of today's.
 
    AN UPDATE, from a build with older rules, goes in this order. docs/UPDATE.md has it for whoever carries it out, and
    examples/update.c is the second and third step.
@@ -47,8 +48,10 @@
      2. The NEW build's rumqatiss_update makes one of its own images of that one.
      3. That image, with an empty log and the new RUMQATISS_RULES, takes the old one's place, all at once.
    In another order loads are lost or mixed up:
-   - The new build replays the old log: a receive from a number that is not live stopped its caller then, and is refused now; an end
-     wakes more threads now; and the records behind it happen to whoever runs instead. The code is 0 all the same.
+   - The new build replays the old log: a create may have given another number then than it gives now (rules 1 to 3), and a record that
+     names that number meets nobody, or another thread; a receive from a number that is not live stopped its caller then, and is refused
+     now, and an end wakes more threads now (rules 1 and 2), so the records behind such a one happen to whoever runs instead. The code is
+     0 all the same.
    - The update comes before the old log is replayed: what the log holds has not happened to the image, and is lost with the log.
    - The old log stays beside the new image: its records happen a second time.
    - The old image is handed to another function than rumqatiss_update: it may get 10. It is not broken, and to begin with
@@ -58,7 +61,8 @@
    lowest first. A set of devices is six bytes: the device with index i is bit i % 8 of byte i / 8.
 
      kind             bytes                 what happens
-     1 create         01                    a new thread joins the back of ready; its number is given
+     1 create         01                    a new thread joins the back of ready; its number is given: the first after the last one
+                                            given, 0 after 253, that no live thread has and no live thread's answer names
      2 send           02 number word        the running thread sends the word to that thread, and stops until the reply
      3 receive        03 number             the running thread receives from that thread (FF: from anyone), or stops until it can,
                                             or until that thread ends
@@ -115,7 +119,7 @@ extern "C" {
 #define RUMQATISS_LONGEST_RECORD 11  /* bytes */
 #define RUMQATISS_RECORD_LENGTHS { 1, 6, 2, 6, 2, 1, 1, 1, 2, 11 }  /* bytes of a record of kind 1, 2, .. 10 */
 #define RUMQATISS_NOBODY 255         /* no number; in a receive, anyone */
-#define RUMQATISS_RULES 3            /* the number of the rules that this build follows, raised by every later change of the rules */
+#define RUMQATISS_RULES 4            /* the number of the rules that this build follows, raised by every later change of the rules */
 #define RUMQATISS_STACK 8080         /* bytes of your stack; a call was never measured to use more */
 
 /* Thread numbers run from 0 to 253. */
@@ -209,7 +213,7 @@ uint8_t rumqatiss_look_up(const uint8_t *image, size_t image_len, uint8_t number
    Each thread in it that receives from a number that is not live, by rising place, gets the answer 16, that number and the word 0,
    and joins the back of ready. Then, where nobody runs, the front of ready does. Nothing else changes but the edition: whoever stood in a
    send still does, in the same place of the same inbox, or awaiting the same reply, with the same word. Where no thread is woken, it
-   is what rumqatiss_replay gives with an empty log.
+   is what rumqatiss_replay gives with an empty log. An image that a build with rules 3 left comes out as it is, byte for byte.
    Returns the code. The tests in their order: the image's as above, where 10 does not ask that those whom threads receive from live; 7.
    choice, next  codes 0, 7: of the image after the update. Another code: halt.
    length        of the new image with code 0; else 0, and `out` is as it was. */

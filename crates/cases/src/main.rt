@@ -1,4 +1,4 @@
-// Runs the cases of "Loads that were counted" and those of document 02's P1 and P2, and every operation on states that are not consistent, and prints what
+// Runs the cases of "Loads that were counted" and those of document 02's P1 to P3, and every operation on states that are not consistent, and prints what
 // each answers.
 use nucleus::Reply;
 use nucleus::State;
@@ -19,6 +19,7 @@ fn main() {
     ended();
     refused();
     wrapped();
+    passed_over();
     waits();
     sticks();
     fills();
@@ -111,6 +112,23 @@ fn wrapped() {
     let last = Number(rules::LAST_NUMBER);
     s.last = last;
     line(b"last given 253, only 0 live: create", s.create(), Place(1));
+}
+
+// Document 02's P3: 0 has the answer 16, 1, 7, so 1 is passed over until 0 has another. To send to it is refused all the same, since it is not live.
+fn passed_over() {
+    let log = b"\x01\x01\x02\x01\x07\0\0\0\x05\x01";
+    let mut s = after(log);
+    let last = Number(rules::LAST_NUMBER);
+    s.last = last;
+    line(
+        b"last given 253, only 0 live, its answer's who 1: create",
+        s.create(),
+        Place(1),
+    );
+    line(b"0 sends to 1", s.send(Number(1), 7), Place(0));
+    let s = line(b"0 waits for the clock", s.wait_clock(), Place(0));
+    let s = line(b"tick", s.tick(), Place(0));
+    line(b"create", s.create(), Place(1));
 }
 
 fn waits() {

@@ -1,4 +1,4 @@
--- Event 1, create: the lowest empty place takes a thread with a number that nobody has.
+-- Event 1, create: the lowest empty place takes a thread with the next number that is not barred.
 use mathlib.Core.Path.{_≡_, sym, ap, _∙_}
 use mathlib.Core.List.{List}
 use mathlib.Core.Bool.{Bool, true, false}

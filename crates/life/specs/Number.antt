@@ -1,51 +1,112 @@
--- The search for the number of a new thread: the first of the 254 after the last one given that nobody has.
+-- The search for the number of a new thread: the first of the 254 after the last one given that is not barred.
 use mathlib.Core.Path.{_≡_, refl, ap, _∙_}
 use mathlib.Core.List.{List}
-use mathlib.Core.Bool.{Bool, cond, not}
-use Prim.Native.Nat.{ℕ, zero, suc, _-_, _<_}
+use mathlib.Core.Bool.{Bool, true, false, cond, not, _&&_, _||_, or-true}
+use Prim.Native.Nat.{ℕ, zero, suc, _+_, _-_, _≤_, _<_}
+use native.Mathlib.Numerals.{add-one}
 use native.Mathlib.Omega.{arith}
 use borrow.Author.Tests.{ne-eqb}
 use lib.Dec.{eqb}
-use Rattle.lists.specs.Lists.{none}
+use lib.ListN.{getD}
+use Rattle.lists.specs.Lists.{none, firstOf, upFrom}
+use Rattle.lists.specs.Laws.{by-test}
 use Rattle.rules.specs.Values.{nobody}
-use Rattle.rules.specs.Model.{lastNumber}
-use Rattle.rules.specs.Rules.{inUse, successor, firstFree, nextNumber}
-use Rattle.table.specs.Cells.{modelOf}
-use Rattle.verbs.specs.Find.{found, found-is}
+use Rattle.rules.specs.Model.{places, lastNumber, allPlaces, thread, livesAt}
+use Rattle.rules.specs.Rules.{barred, successor, firstFree, nextNumber}
+use Rattle.table.specs.Cells.{cell, modelOf, standsAt}
+use Rattle.table.specs.Rows.{thread-at}
 
--- does a thread have the number n
-abbrev pub used : List ℕ → ℕ → Bool
-used b n = not (eqb (found b n) none)
+-- ---- what bars a number
 
--- the first after n that none has
+-- does a thread at p have the number n, or an answer with n as its who
+abbrev pub barsAt : List ℕ → ℕ → ℕ → Bool
+barsAt b n p = standsAt b p && (eqb (getD b (cell 0 p) 0) n || eqb (getD b (cell 4 p) 0) n)
+
+-- does one of the places p, p + 1, .., c of them. (No abbrev: c is a numeral.)
+unfoldable pub barsFrom : List ℕ → ℕ → ℕ → ℕ → Bool
+barsFrom b n p zero = false
+barsFrom b n p (suc c) = barsAt b n p || barsFrom b n (suc p) c
+
+-- of all places
+abbrev pub bars : List ℕ → ℕ → Bool
+bars b n = barsFrom b n 0 places
+
+-- the first after n that none bars
 abbrev pub freeAfter : List ℕ → ℕ → ℕ
-freeAfter b n = firstFree (used b) (suc lastNumber) n
+freeAfter b n = firstFree (bars b) (suc lastNumber) n
+
+-- ---- it is the rule's
+
+-- a place is found by one test or by the other, of the c places from p on
+module _ (b : List ℕ) (n : ℕ) (f g : ℕ → Bool) (e : (p : ℕ) → p < places → barsAt b n p ≡ f p || g p) where
+  abbrev finds : (ℕ → Bool) → ℕ → ℕ → Bool
+  finds t p c = not (eqb (firstOf t (upFrom p c)) none)
+
+  either : (c p : ℕ) → p + c ≤ places → finds f p c || finds g p c ≡ barsFrom b n p c
+  unfolding barsFrom
+  either zero p i = refl
+  either (suc c) p i =
+      let ih = either c (suc p) (omega arith) in
+      let here : eqb p none ≡ false = ne-eqb p none (omega arith) in
+      by-test (f p)
+      (λ t. rw (e p (omega arith), t, here))
+      (λ t. by-test (g p)
+      (λ u. rw (e p (omega arith), t, u, here) (or-true (finds f (suc p) c)))
+      (λ u. rw (e p (omega arith), t, u) ih))
+
+shared : (x y z : Bool) → x && (y || z) ≡ x && y || x && z
+shared true y z = refl
+shared false y z = refl
+
+barred-is : (y x n : ℕ) (b w l : List ℕ) → barred (modelOf y x b w l) n ≡ bars b n
+unfolding allPlaces
+barred-is y x n b w l =
+    let m = modelOf y x b w l in
+    either b n (λ p. livesAt m p && eqb (thread m p .number) n) (λ p. livesAt m p && eqb (thread m p .who) n)
+    (λ p h. rw (thread-at y x b w l p h) (shared (standsAt b p) (eqb (getD b (cell 0 p) 0) n) (eqb (getD b (cell 4 p) 0) n)))
+    places 0 (omega arith)
 
 free-ext : (f g : ℕ → Bool) → ((n : ℕ) → f n ≡ g n) → (k n : ℕ) → firstFree f k n ≡ firstFree g k n
 unfolding firstFree
 free-ext f g e zero n = refl
 free-ext f g e (suc k) n = rw (e (successor n), free-ext f g e k (successor n))
 
--- it is the rule's
 pub number-is : (y x : ℕ) (b w l : List ℕ) → nextNumber (modelOf y x b w l) ≡ freeAfter b y
-number-is y x b w l = free-ext (inUse (modelOf y x b w l)) (used b) (λ n. ap (λ (p : ℕ). not (eqb p none)) (found-is y x n b w l)) (suc lastNumber) y
+number-is y x b w l = free-ext (barred (modelOf y x b w l)) (bars b) (λ n. barred-is y x n b w l) (suc lastNumber) y
 
--- ---- the loop: of the k numbers after n, where j is the next and p its place
+-- ---- the loop over the places, at the place i
 
-module _ (b : List ℕ) (k n : ℕ) {j p : ℕ} (e : j ≡ successor n) (f : p ≡ found b j) where
-  one : (i : ℕ) → firstFree (used b) (suc i) n ≡ cond (not (eqb p none)) (firstFree (used b) i j) j
+module _ (b : List ℕ) (n i : ℕ) where
+  at : i < places → barsFrom b n i (places - i) ≡ barsAt b n i || barsFrom b n (suc i) (places - suc i)
+  unfolding barsFrom
+  at h = let e : places - i ≡ suc (places - suc i) = omega arith in rw e
+
+  pub bars-here : i < places → barsAt b n i ≡ true → barsFrom b n i (places - i) ≡ true
+  bars-here h t = at h ∙ rw t
+
+  pub bars-past : i < places → barsAt b n i ≡ false → barsFrom b n i (places - i) ≡ barsFrom b n (i + 1) (places - (i + 1))
+  bars-past h t = at h ∙ rw (t, add-one)
+
+  pub bars-none : places ≤ i → barsFrom b n i (places - i) ≡ false
+  unfolding barsFrom
+  bars-none h = let e : places - i ≡ 0 = omega arith in rw e
+
+-- ---- the loop over the numbers: of the k after n, where j is the next and t says whether it is barred
+
+module _ (b : List ℕ) (k n : ℕ) {j : ℕ} {t : Bool} (e : j ≡ successor n) (f : t ≡ bars b j) where
+  one : (i : ℕ) → firstFree (bars b) (suc i) n ≡ cond t (firstFree (bars b) i j) j
   unfolding firstFree
   one i = rw (← e, ← f)
 
-  step : 0 < k → firstFree (used b) k n ≡ cond (not (eqb p none)) (firstFree (used b) (k - 1) j) j
-  step h = let z : k ≡ suc (k - 1) = omega arith in ap (λ (i : ℕ). firstFree (used b) i n) z ∙ one (k - 1)
+  step : 0 < k → firstFree (bars b) k n ≡ cond t (firstFree (bars b) (k - 1) j) j
+  step h = let z : k ≡ suc (k - 1) = omega arith in ap (λ (i : ℕ). firstFree (bars b) i n) z ∙ one (k - 1)
 
-  pub free-here : 0 < k → p ≡ none → firstFree (used b) k n ≡ j
+  pub free-here : 0 < k → t ≡ false → firstFree (bars b) k n ≡ j
   free-here h z = step h ∙ rw z
 
-  pub free-past : 0 < k → (p ≡ none → ⊥) → firstFree (used b) k n ≡ firstFree (used b) (k - 1) j
-  free-past h z = step h ∙ rw (ne-eqb p none z)
+  pub free-past : 0 < k → t ≡ true → firstFree (bars b) k n ≡ firstFree (bars b) (k - 1) j
+  free-past h z = step h ∙ rw z
 
-pub free-none : (b : List ℕ) (k n : ℕ) → k ≡ 0 → firstFree (used b) k n ≡ nobody
+pub free-none : (b : List ℕ) (k n : ℕ) → k ≡ 0 → firstFree (bars b) k n ≡ nobody
 unfolding firstFree
 free-none b k n e = rw e

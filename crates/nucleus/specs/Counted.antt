@@ -8,9 +8,9 @@ use Rattle.lists.specs.Every.{Every, each, every}
 use Rattle.rules.specs.Model.{Model, lastNumber, thread}
 use Rattle.rules.specs.Rules.{Outcome, outcome, fresh, gave, after}
 use Rattle.rules.specs.Consistent.{belongs, OldConsistent, Consistent}
-use Rattle.rules.specs.Counted.{Seen, played, begun, found, one, cases, counted}
+use Rattle.rules.specs.Counted.{Seen, played, begun, found, one, dropped, leftHolding, readyHolding, firstEnded, cases, counted}
 use Rattle.rules.specs.declared.Event.{Event}
-use Rattle.order.specs.Keeps.{fresh-consistent, always}
+use Rattle.order.specs.Keeps.{AllFit, fresh-consistent, always}
 use Rattle.nucleus.specs.View.{view, held, refused}
 use Rattle.nucleus.specs.Answers.{Meets, Answers}
 use Rattle.nucleus.specs.declared.Reply.{Reply}
@@ -76,12 +76,28 @@ gave-old m n h C = record {
 gave-consistent : (m : Model) (n : ℕ) → n ≤ lastNumber → Consistent m → Consistent (gave n m)
 gave-consistent m n h C = record { old = gave-old m n h (C .old); listens = C .listens }
 
-wrapped : Consistent (gave lastNumber (after one fresh))
-wrapped = gave-consistent (after one fresh) lastNumber (omega arith) (always one fresh fresh-consistent (omega arith, tt))
+-- the last number given is 253
+wrapped : (es : List Event) → AllFit es → Consistent (gave lastNumber (after es fresh))
+wrapped es f = gave-consistent (after es fresh) lastNumber (omega arith) (always es fresh fresh-consistent f)
 
 pub starts : Every (λ c. Consistent (c .start)) cases
 unfolding cases
-starts = (new, (new, (new, (new, (new, (new, (new, (new, (new, (new, (new, (new, (wrapped, (new, (new, (new, (new, (new, (new, (new, (new, (new, (new, (new, (new, (new, (new, (new, (new, (new, (new, (new, (new, (new, (new, tt)))))))))))))))))))))))))))))))))))
+starts = (new, (new, (new, (new, (new, (new, (new, (new, (new, (new, (new, (new, (alone, (new, (new, (new, (new, (new, (new, (new, (new, (new, (new, (new, (new, (new, (new, (new, (new, (new, (new, (new, (new, (new, (new, (after-end, (left-holding, (after-end, (ready-holding, (one-left, (new, (new, tt))))))))))))))))))))))))))))))))))))))))))
   where
     new : Consistent fresh
     new = fresh-consistent
+
+    alone : Consistent (gave lastNumber (after one fresh))
+    alone = wrapped one (omega arith, tt)
+
+    after-end : Consistent (gave lastNumber (after dropped fresh))
+    after-end = wrapped dropped (omega arith, (omega arith, (omega arith, (omega arith, tt))))
+
+    left-holding : Consistent (gave lastNumber (after leftHolding fresh))
+    left-holding = wrapped leftHolding (omega arith, (omega arith, (omega arith, (omega arith, (omega arith, tt)))))
+
+    ready-holding : Consistent (gave lastNumber (after readyHolding fresh))
+    ready-holding = wrapped readyHolding (omega arith, (omega arith, (omega arith, (omega arith, (omega arith, (omega arith, tt))))))
+
+    one-left : Consistent (gave lastNumber (after firstEnded fresh))
+    one-left = wrapped firstEnded (omega arith, (omega arith, (omega arith, tt)))

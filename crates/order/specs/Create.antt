@@ -1,19 +1,22 @@
--- Event 1, create: the lowest empty place takes a thread with a number that nobody has.
+-- Event 1, create: the lowest empty place takes a thread with a number that nobody has and no answer names.
 use Prim.Native.Nat.{ℕ, suc, _≤_, _<_}
 use mathlib.Core.Path.{_≡_, refl, sym, ap, _∙_}
 use mathlib.Core.Logic.{_≢_}
+use mathlib.Core.Bool.{false}
 use native.Mathlib.Omega.{arith}
 use borrow.Author.Tests.{eqb-true, not-false}
 use Rattle.lists.specs.Lists.{none}
+use Rattle.lists.specs.Laws.{by-test, never}
 use Rattle.rules.specs.Model.{places, lastNumber, Empty, Thread, Model, ready, thread}
-use Rattle.rules.specs.Rules.{placeOf, inUse, nextNumber, newcomer, emptyPlace, createAt, create}
+use Rattle.rules.specs.Rules.{placeOf, inUse, barred, nextNumber, newcomer, emptyPlace, createAt, create}
 use Rattle.order.specs.Sound.{Sound, numbered}
 use Rattle.order.specs.Belongs.{in-none, in-ready}
-use Rattle.order.specs.Places.{unused, in-use, empty, empty-place}
+use Rattle.order.specs.Places.{unused, empty, empty-place}
 use Rattle.order.specs.Lines.{joins}
 use Rattle.order.specs.Moves.{aside}
 use Rattle.order.specs.Fill.{Swap, changed}
-use Rattle.order.specs.Numbers.{free-low, some-free}
+use Rattle.order.specs.Numbers.{free-low}
+use Rattle.order.specs.Barred.{some-clear}
 
 -- the empty place p takes a thread with an unused number
 pub filled : (m : Model) → Sound m → (p n : ℕ) → p < places → thread m p .standing ≡ Empty → n ≤ lastNumber → placeOf m n ≡ none → Swap m p (newcomer n) (createAt p n m)
@@ -41,12 +44,15 @@ filled m S p n h zero-p low free = changed m p (newcomer n) n (m .running) _ S (
   unnamed = λ s k five named e. named (e ∙ ap (λ (t : Thread). t .number) (S .fits p .clean zero-p));
 })
 
--- the number that create gives is a number, and is not in use
+-- the number that create gives is a number, and is not barred ..
+pub given-clear : (m : Model) → Sound m → (nextNumber m ≤ lastNumber) × (barred m (nextNumber m) ≡ false)
+given-clear m S = free-low (barred m) (suc lastNumber) (m .last) (S .last) (some-clear m S)
+
+-- .. so it is not in use
 pub given-free : (m : Model) → Sound m → (nextNumber m ≤ lastNumber) × (placeOf m (nextNumber m) ≡ none)
 given-free m S =
-    let some = some-free (inUse m) (λ p. thread m p .number) places (in-use m S) (suc lastNumber) (m .last) (S .last) (omega arith) (omega arith) in
-    let f = free-low (inUse m) (suc lastNumber) (m .last) (S .last) some in
-    (f .0, eqb-true _ _ (not-false _ (f .1)))
+    let f = given-clear m S in
+    (f .0, by-test (inUse m (nextNumber m)) (λ t. never (rw t) (f .1)) (λ t. eqb-true _ _ (not-false _ t)))
 
 pub creates : (m : Model) → Sound m → emptyPlace m ≢ none → Swap m (emptyPlace m) (newcomer (nextNumber m)) (create m)
 creates m S h = let f = given-free m S in filled m S (emptyPlace m) (nextNumber m) (empty-place m h) (empty m h) (f .0) (f .1)

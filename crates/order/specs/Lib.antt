@@ -11,6 +11,7 @@ pub mod Standings
 pub mod Dispatch
 pub mod Caller
 pub mod Numbers
+pub mod Barred
 pub mod Create
 pub mod Send
 pub mod Receive
@@ -27,4 +28,6 @@ pub mod Lives
 pub mod TurnComes
 pub mod BackOnly
 pub mod NobodyWaits
+pub mod Answerer
+pub mod Unheld
 pub mod Update

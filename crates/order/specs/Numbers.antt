@@ -1,4 +1,4 @@
--- There is always a number to give: 254 of them follow one another before one comes back, and fewer are in use.
+-- There is always a number to give: 254 of them follow one another before one comes back, and fewer are barred.
 use Prim.Native.Nat.{ℕ, zero, suc, _+_, _≤_, _<_}
 use mathlib.Core.Path.{_≡_, refl, ap}
 use mathlib.Core.Logic.{_≢_}

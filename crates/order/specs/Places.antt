@@ -1,18 +1,18 @@
--- Looking places up: the place of a live number, and the lowest empty one.
+-- Looking places up: the place of a live number, that of one whose answer names it, and the lowest empty one.
 use Prim.Native.Nat.{ℕ, _≤_, _<_}
 use mathlib.Core.Path.{_≡_, _∙_}
-use mathlib.Core.Logic.{_≢_}
+use mathlib.Core.Logic.{_≢_, _⊎_, inl, inr}
 use mathlib.Core.Bool.{true, false, _&&_, not}
 use native.Mathlib.Decide.{ℕ-discrete, decLt}
 use native.Mathlib.Omega.{arith}
 use lib.Dec.{eqb}
 use borrow.Author.Tests.{not-true, not-false, eqb-true, eqb-false, eq-eqb, ne-eqb}
-use Rattle.lists.specs.Lists.{none, count}
-use Rattle.lists.specs.Laws.{by-test, and-left, and-right}
+use Rattle.lists.specs.Lists.{none, count, firstOf}
+use Rattle.lists.specs.Laws.{by-test, never, and-left, and-right}
 use Rattle.lists.specs.Tables.{tally-full}
 use Rattle.lists.specs.Search.{count-upFrom, upFrom-within, found-in, found-passes, found-none, found-from}
-use Rattle.rules.specs.Model.{places, Empty, Model, thread, line, allPlaces, livesAt}
-use Rattle.rules.specs.Rules.{placeOf, inUse, emptyPlace, full}
+use Rattle.rules.specs.Model.{places, Empty, Thread, Model, thread, line, allPlaces, livesAt}
+use Rattle.rules.specs.Rules.{placeOf, inUse, holderOf, barred, emptyPlace, full}
 use Rattle.order.specs.Sound.{Live, Sound, small}
 use Rattle.order.specs.Belongs.{in-none}
 
@@ -49,39 +49,74 @@ at-lives m p h = rw (ne-eqb (thread m p .standing) Empty h)
 pub at-empty : (m : Model) (p : ℕ) → not (livesAt m p) ≡ true → thread m p .standing ≡ Empty
 at-empty m p e = eqb-true _ Empty (not-false _ (not-true _ e))
 
--- ---- the place of a number
+-- ---- the first place whose live thread has n in some field: as its number, or as its answer's who
 
-at-place : (m : Model) (n p : ℕ) → livesAt m p && eqb (thread m p .number) n ≡ true → (thread m p .standing ≢ Empty) × (thread m p .number ≡ n)
-at-place m n p e = (
-  lives-at m p (and-left (livesAt m p) (eqb (thread m p .number) n) e),
-  eqb-true (thread m p .number) n (and-right (livesAt m p) (eqb (thread m p .number) n) e),
-)
+module _ (field : Thread → ℕ) (m : Model) (n : ℕ) where
+  abbrev spot : ℕ
+  spot = firstOf (λ p. livesAt m p && eqb (field (thread m p)) n) allPlaces
+
+  at-place : (p : ℕ) → livesAt m p && eqb (field (thread m p)) n ≡ true → (thread m p .standing ≢ Empty) × (field (thread m p) ≡ n)
+  at-place p e = (
+    lives-at m p (and-left (livesAt m p) (eqb (field (thread m p)) n) e),
+    eqb-true (field (thread m p)) n (and-right (livesAt m p) (eqb (field (thread m p)) n) e),
+  )
+
+  found-there : spot ≢ none → (thread m spot .standing ≢ Empty) × (field (thread m spot) ≡ n)
+  found-there h = at-place spot (found-passes (λ p. livesAt m p && eqb (field (thread m p)) n) allPlaces h)
+
+  module _ (S : Sound m) where
+    live-there : (s : ℕ) → thread m s .standing ≢ Empty → field (thread m s) ≡ n → (thread m spot .standing ≢ Empty) × (field (thread m spot) ≡ n)
+    unfolding allPlaces
+    live-there s h z =
+        let i : s < places = small m S s h in
+        at-place spot (found-from (λ p. livesAt m p && eqb (field (thread m p)) n) places 0 s (omega arith) (omega arith)
+        (rw (ne-eqb (thread m s .standing) Empty h) (eq-eqb (field (thread m s)) n z)))
+
+    nobody-there : spot ≡ none → (s : ℕ) → thread m s .standing ≢ Empty → field (thread m s) ≢ n
+    nobody-there e s h z = let v = live-there s h z in let i : spot < places = small m S spot (v .0) in omega arith
 
 -- a number whose place is found lives there ..
 pub placed : (m : Model) (n : ℕ) → placeOf m n ≢ none → (thread m (placeOf m n) .standing ≢ Empty) × (thread m (placeOf m n) .number ≡ n)
-placed m n h = at-place m n (placeOf m n) (found-passes (λ p. livesAt m p && eqb (thread m p .number) n) allPlaces h)
+placed m n h = found-there (λ t. t .number) m n h
 
 -- .. and the place of a live number is found
 pub live-placed : (m : Model) → Sound m → (n : ℕ) → Live m n → (thread m (placeOf m n) .standing ≢ Empty) × (thread m (placeOf m n) .number ≡ n)
-unfolding allPlaces
-live-placed m S n l =
-    let h : l .0 < places = small m S (l .0) (l .1) in
-    at-place m n (placeOf m n) (found-from (λ p. livesAt m p && eqb (thread m p .number) n) places 0 (l .0) (omega arith) (omega arith)
-    (rw (ne-eqb (thread m (l .0) .standing) Empty (l .1)) (eq-eqb (thread m (l .0) .number) n (l .2))))
+live-placed m S n l = live-there (λ t. t .number) m n S (l .0) (l .1) (l .2)
 
 -- a number that is not in use is nobody's
 pub unused : (m : Model) → Sound m → (n : ℕ) → placeOf m n ≡ none → (s : ℕ) → thread m s .standing ≢ Empty → thread m s .number ≢ n
-unused m S n e s h z = let v = live-placed m S n (s, h, z) in let i : placeOf m n < places = small m S (placeOf m n) (v .0) in omega arith
+unused m S n e = nobody-there (λ t. t .number) m n S e
 
 -- one that nobody has is not in use
 pub not-in-use : (m : Model) (n : ℕ) → ((s : ℕ) → thread m s .standing ≢ Empty → thread m s .number ≢ n) → inUse m n ≡ false
 not-in-use m n h = by-test (inUse m n) (λ e. let v = placed m n (eqb-false _ _ (not-true _ e)) in absurd (h (placeOf m n) (v .0) (v .1))) (λ e. e)
 
--- and one in use is some place's
-pub in-use : (m : Model) → Sound m → (n : ℕ) → inUse m n ≡ true → (p : ℕ) × (p < places) × (thread m p .number ≡ n)
-in-use m S n e =
-    let v = placed m n (eqb-false _ _ (not-true _ e)) in
-    (placeOf m n, small m S (placeOf m n) (v .0), v .1)
+-- ---- a barred number
+
+-- the thread at r lives, and n is its number
+abbrev pub NumberAt : Model → ℕ → ℕ → Type 0
+NumberAt m r n = (thread m r .standing ≢ Empty) × (thread m r .number ≡ n)
+
+-- the thread at p lives, and its answer names n
+abbrev pub HeldAt : Model → ℕ → ℕ → Type 0
+HeldAt m p n = (thread m p .standing ≢ Empty) × (thread m p .who ≡ n)
+
+-- what is barred is some place's in one of these ways
+pub barred-by : (m : Model) (n : ℕ) → barred m n ≡ true → (p : ℕ) × (NumberAt m p n ⊎ HeldAt m p n)
+barred-by m n e =
+    by-test (inUse m n)
+    (λ t. (placeOf m n, inl (placed m n (eqb-false _ _ (not-true _ t)))))
+    (λ t. (holderOf m n, inr (found-there (λ t. t .who) m n (eqb-false _ _ (not-true _ (rw t at e))))))
+
+-- and what is not barred is no place's in either
+pub not-barred : (m : Model) → Sound m → (n : ℕ) → barred m n ≡ false → (s : ℕ) → (NumberAt m s n → ⊥) × (HeldAt m s n → ⊥)
+not-barred m S n e s =
+    by-test (inUse m n)
+    (λ t. never (rw t) e)
+    (λ t. (
+      (λ h. unused m S n (eqb-true _ _ (not-false _ t)) s (h .0) (h .1)),
+      (λ h. nobody-there (λ t. t .who) m n S (eqb-true _ _ (not-false _ (rw t at e))) s (h .0) (h .1)),
+    ))
 
 -- ---- the lowest empty place
 

@@ -1,4 +1,4 @@
--- "LOADS THAT WERE COUNTED" (document 01): every starred case, of the rules, of the image and of the log, and those of document 02's P1 and P2, in one table
+-- "LOADS THAT WERE COUNTED" (document 01): every starred case, of the rules, of the image and of the log, and those of document 02's P1 to P3, in one table
 -- that one computed fact covers.
 use Prim.Native.Nat.{ℕ}
 use mathlib.Core.Path.{_≡_, refl}

@@ -1,4 +1,4 @@
--- "Loads that were counted" (document 01): the starred cases that need no image and no log, and cases of document 02's P1 and P2, as one table, and one fact
+-- "Loads that were counted" (document 01): the starred cases that need no image and no log, and cases of document 02's P1 to P3, as one table, and one fact
 -- that covers it.
 use Prim.Native.Nat.{ℕ}
 use mathlib.Core.Path.{_≡_, refl}
@@ -76,8 +76,17 @@ pair = Create ∷ Create ∷ []
 abbrev met : List Event
 met = Create ∷ Create ∷ Receive (no nobody) ∷ Send (no 0) 7 ∷ []
 
-abbrev dropped : List Event
+abbrev pub dropped : List Event
 dropped = Create ∷ Create ∷ Send (no 1) 7 ∷ End (no 1) ∷ []
+
+abbrev pub leftHolding : List Event
+leftHolding = Create ∷ Create ∷ Receive (no nobody) ∷ Send (no 0) 7 ∷ End (no 1) ∷ []
+
+abbrev pub readyHolding : List Event
+readyHolding = Create ∷ Create ∷ Create ∷ SliceEnd ∷ Send (no 2) 7 ∷ End (no 2) ∷ []
+
+abbrev pub firstEnded : List Event
+firstEnded = Create ∷ Create ∷ End (no 0) ∷ []
 
 unfoldable pub cases : List Case
 cases =
@@ -134,6 +143,18 @@ cases =
     ∷ case fresh (one ++ (Receive (no 0) ∷ [])) 0 3 nobody (Run (no 0)) (runner 0 0 nobody 0)
     ∷ case fresh (one ++ (Receive (no 254) ∷ [])) 0 2 nobody (Run (no 0)) (runner 0 0 nobody 0)
     ∷ case fresh (pair ++ (Receive (no 1) ∷ [])) 0 0 nobody (Run (no 1)) (thread-as 0 Receiving 1 0 0 nobody 0)
+    -- P3. Last given 253, only 0 live, its answer's who 1, be it 16, 1, 7 or 0, 1, 7: create gives 2. Once 0 has another answer, create gives 1.
+    ∷ case (gave lastNumber (after dropped fresh)) one 1 0 2 (Run (no 0)) (queued 2 0 nobody 0)
+    ∷ case (gave lastNumber (after leftHolding fresh)) one 1 0 2 (Run (no 0)) (queued 2 0 nobody 0)
+    ∷ case (gave lastNumber (after dropped fresh)) (WaitClock ∷ Tick ∷ Create ∷ []) 1 0 1 (Run (no 0)) (queued 1 0 nobody 0)
+    -- 0 runs, and 1, which is ready, has the answer 16, 2, 7: create gives 3.
+    ∷ case (gave lastNumber (after readyHolding fresh)) one 2 0 3 (Run (no 0)) (queued 3 0 nobody 0)
+    -- Who 255 is nobody, and bars no number: last given 253, only 1 live, its answer 0, 255, 0: create gives 0.
+    ∷ case (gave lastNumber (after firstEnded fresh)) one 0 0 0 (Run (no 1)) (queued 0 0 nobody 0)
+    -- A freed number that nobody holds is not given again at once either: 1 is ended, and the next create gives 2.
+    ∷ case fresh (pair ++ (End (no 1) ∷ Create ∷ [])) 1 0 2 (Run (no 0)) (queued 2 0 nobody 0)
+    -- A number that is held and not live is still refused: 4.
+    ∷ case fresh (dropped ++ (Send (no 1) 7 ∷ [])) 0 4 nobody (Run (no 0)) (runner 0 16 1 7)
     ∷ []
 
 pub counted : map found cases ≡ map (λ c. c .seen) cases

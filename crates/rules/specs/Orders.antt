@@ -1,11 +1,12 @@
 -- Examples where the order of a line matters, computed from the rules: whoever came first is first, and not whoever has the lower place.
 use mathlib.Core.Path.{_≡_, refl}
 use mathlib.Core.List.{List, [], _∷_, _++_, map}
-use Prim.Native.Nat.{ℕ}
-use Rattle.lists.specs.Lists.{tally}
+use Prim.Native.Nat.{ℕ, _-_}
+use lib.ListN.{replicate}
+use Rattle.lists.specs.Lists.{none, tally}
 use Rattle.rules.specs.Values.{nobody}
-use Rattle.rules.specs.Model.{Awaiting, Receiving, Thread, Model, ready, clock, inbox, line, thread, allPlaces}
-use Rattle.rules.specs.Rules.{firstFree, put, stands, fresh, after, updated}
+use Rattle.rules.specs.Model.{places, lineCount, Awaiting, Receiving, Thread, vacant, Model, ready, clock, inbox, line, thread, allPlaces}
+use Rattle.rules.specs.Rules.{firstFree, put, fresh, after, updated}
 use Rattle.rules.specs.Counted.{no}
 use Rattle.rules.specs.declared.Event.{Event}
 use Rattle.rules.specs.declared.Event.the-variants.{Create, Send, Receive, End, WaitClock, SliceEnd, Tick}
@@ -62,18 +63,19 @@ end-by-three-groups :
 unfolding allPlaces firstFree tally
 end-by-three-groups = (refl, refl)
 
--- the thread at p receives from n, as under the old rules it could whoever n was
-abbrev receivesFrom : ℕ → ℕ → Model → Model
-receivesFrom p n m = put p (stands Receiving n 0 (thread m p)) m
-
-abbrev allReceive : Model
-allReceive =
-    after (Create ∷ Create ∷ Create ∷ Create ∷ Receive (no nobody) ∷ Receive (no nobody) ∷ Receive (no nobody) ∷ Receive (no nobody) ∷ []) fresh
+-- a thread of number n that receives from another, as under the old rules it could whoever that was
+abbrev receiver : ℕ → ℕ → Thread
+receiver n from = record { number = n; standing = Receiving; partner = from; word = 0; code = 0; who = nobody; answer = 0 }
 
 -- The update load: 0 and 2 receive from 9 and 7, who are dead, 1 from 2, who lives, and 3 from any. Nobody runs: 0 and 2 are woken, by rising place, and 0
--- runs.
+-- runs. (The nucleus is written out, since one that is played from fresh is computed anew at each look.)
 abbrev twoDead : Model
-twoDead = receivesFrom 2 7 (receivesFrom 1 2 (receivesFrom 0 9 allReceive))
+twoDead = record {
+  last = 3;
+  running = none;
+  threads = receiver 0 9 ∷ receiver 1 2 ∷ receiver 2 7 ∷ receiver 3 nobody ∷ replicate (places - 4) vacant;
+  lines = replicate lineCount [];
+}
 
 update-by-place : wokenIn (updated twoDead) (0 ∷ 2 ∷ []) ≡ (0 ∷ []) ∷ (2 ∷ []) ∷ (16 ∷ 9 ∷ 0 ∷ []) ∷ (16 ∷ 7 ∷ 0 ∷ []) ∷ []
 unfolding allPlaces firstFree tally
@@ -85,7 +87,7 @@ update-past = refl
 
 -- Where somebody runs, it goes on, and whoever is woken is ready behind those who are.
 abbrev oneDead : Model
-oneDead = receivesFrom 0 7 (after (Create ∷ Create ∷ Create ∷ Receive (no nobody) ∷ []) fresh)
+oneDead = put 0 (receiver 0 7) (after (Create ∷ Create ∷ Create ∷ Receive (no nobody) ∷ []) fresh)
 
 update-running : wokenIn (updated oneDead) (0 ∷ []) ≡ (1 ∷ []) ∷ (2 ∷ 0 ∷ []) ∷ (16 ∷ 7 ∷ 0 ∷ []) ∷ []
 unfolding allPlaces firstFree tally

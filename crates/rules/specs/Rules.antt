@@ -1,4 +1,4 @@
--- THE RULES (document 01, "The eight events" and "When the nucleus says no"; document 02, P1 and P2), in the documents' order and words.
+-- THE RULES (document 01, "The eight events" and "When the nucleus says no"; document 02, P1 to P3), in the documents' order and words.
 -- No proofs here: what is proved of the rules is in the crate `order`.
 use Prim.Native.Nat.{ℕ, zero, suc, _+_}
 use mathlib.Core.List.{List, [], _∷_, _++_}
@@ -80,14 +80,25 @@ successor n = cond (ltb n lastNumber) (n + 1) 0
 abbrev pub inUse : Model → Number → Bool
 inUse m n = not (eqb (placeOf m n) none)
 
+-- the place of a live thread whose answer has n as its who, or none
+abbrev pub holderOf : Model → Number → Place
+holderOf m n = firstOf (λ p. livesAt m p && eqb (thread m p .who) n) allPlaces
+
+abbrev pub stillHeld : Model → Number → Bool
+stillHeld m n = not (eqb (holderOf m n) none)
+
+-- A number is passed over while it is in use, and also while it is the "who" in any live thread's answer.
+abbrev pub barred : Model → Number → Bool
+barred m n = inUse m n || stillHeld m n
+
 -- of the k numbers after n, the first that is not used. (No abbrev: k is 254.)
 unfoldable pub firstFree : (Number → Bool) → ℕ → Number → Number
 firstFree used zero n = nobody
 firstFree used (suc k) n = cond (used (successor n)) (firstFree used k (successor n)) (successor n)
 
--- A new thread gets the first number not in use after the last one given, modulo 254.
+-- A new thread gets the first number that is not barred after the last one given, modulo 254.
 abbrev pub nextNumber : Model → Number
-nextNumber m = firstFree (inUse m) (suc lastNumber) (m .last)
+nextNumber m = firstFree (barred m) (suc lastNumber) (m .last)
 
 -- Fresh: last given is 253, so the first is 0.
 abbrev pub fresh : Model

@@ -1,14 +1,15 @@
--- `next_number` meets its contract: whom a search from here on finds is whom the whole search finds.
+-- `next_number` meets its contract: what a search from here on finds is what the whole search finds.
 use borrow.Author.Needs.{needs}
 use mathlib.Core.Path.{_≡_, refl, sym, _∙_}
 use native.Mathlib.Omega.{arith}
+use borrow.Author.Tests.{not-true, not-false}
 use Rattle.rules.specs.Rules.{firstFree}
-use Rattle.life.specs.Number.{used, freeAfter, free-here, free-past, free-none}
+use Rattle.life.specs.Number.{bars, freeAfter, free-here, free-past, free-none}
 use Rattle.life.proofs.create.next_number.Statement.{statement}
 use Rattle.life.proofs.create.next_number.Tie as tie
 
 abbrev Inv-loop : tie.InvT-loop
-Inv-loop b n₀ left₀ n left = freeAfter b (n₀ .0) ≡ firstFree (used b) left (n .0)
+Inv-loop b n₀ left₀ n left = freeAfter b (n₀ .0) ≡ firstFree (bars b) left (n .0)
 
 abbrev μ-loop : tie.MeasureT-loop
 μ-loop b n₀ left₀ n left = left
@@ -19,16 +20,16 @@ loop-holds c = refl
 step-requires : tie.Need-step-requires Inv-loop μ-loop
 step-requires c κs = search needs
 
-find-requires : tie.Need-find-requires Inv-loop μ-loop
-find-requires c κs = search needs
+barred-requires : tie.Need-barred-requires Inv-loop μ-loop
+barred-requires c κs = search needs
 
 returns : tie.Need-returns Inv-loop μ-loop
 returns c =
-    let at-find = c .before .before in
-    let at-step = at-find .before in
+    let at-barred = c .before in
+    let at-step = at-barred .before in
     let at-loop-test = at-step .before in
     let at-loop = at-loop-test .before in
-    sym (at-loop .loop .inv ∙ free-here _ _ _ (at-step .step .ensures) (at-find .find .ensures) (at-loop-test .loop-test .taken) (c .if1 .taken))
+    sym (at-loop .loop .inv ∙ free-here _ _ _ (at-step .step .ensures) (at-barred .barred .ensures) (at-loop-test .loop-test .taken) (not-true _ (c .if1 .taken)))
 
 sub-left : tie.Need-sub-left Inv-loop μ-loop
 sub-left c = search needs
@@ -38,11 +39,11 @@ loop-less c = search needs
 
 loop-again : tie.Need-loop-again Inv-loop μ-loop
 loop-again c =
-    let at-find = c .before .before in
-    let at-step = at-find .before in
+    let at-barred = c .before in
+    let at-step = at-barred .before in
     let at-loop-test = at-step .before in
     let at-loop = at-loop-test .before in
-    at-loop .loop .inv ∙ free-past _ _ _ (at-step .step .ensures) (at-find .find .ensures) (at-loop-test .loop-test .taken) (c .if1 .left)
+    at-loop .loop .inv ∙ free-past _ _ _ (at-step .step .ensures) (at-barred .barred .ensures) (at-loop-test .loop-test .taken) (not-false _ (c .if1 .left))
 
 returns-2 : tie.Need-returns-2 Inv-loop μ-loop
 returns-2 c = sym (c .before .loop .inv ∙ free-none _ _ _ (omega arith))
@@ -55,7 +56,7 @@ next-number-spec =
     μ-loop
     loop-holds
     step-requires
-    find-requires
+    barred-requires
     returns
     sub-left
     loop-less
