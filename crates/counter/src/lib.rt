@@ -29,7 +29,7 @@ pub fn next(c: &mut Counter) -> Number
     n
 }
 
-// The number after the last one given, for callers that hold that themselves, as create does: a counter is made of it, lent to `next`, and read back.
+// The number after the last one given, for callers that hold that themselves, as create's search does: a counter is made of it, lent to `next`, and read back.
 pub fn step(last: Number) -> Number
     ensures { λ r. ⌜ r .0 ≡ successorOf (last .0) ⌝ }
 {

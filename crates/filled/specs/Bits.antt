@@ -82,9 +82,13 @@ word-less (suc k) zero f h =
 word-less (suc k) (suc p) f h =
     clear-there k p (wordOf (suc k) f) _ _ _ (omega arith) (bit-low (f zero)) (word-digit k f .0) (word-digit k f .1) (word-less k p (λ i. f (suc i)) (omega arith)) ∙ sym (changed-there false k p f)
 
--- what `1 << p` is, in a word of 32 digits
+-- what `1 << p` is, in a word of k digits
+pub shl-one : (k p : ℕ) → p < k → (1 * 2 ^ p) % 2 ^ k ≡ 2 ^ p
+shl-one k p h = shl-exact {a = 1} 1 p k (omega arith) (omega arith) ∙ omega arith
+
+-- and in one of 32
 pub one-shl : (p : ℕ) → p < 32 → (1 * 2 ^ p) % 4294967296 ≡ 2 ^ p
-one-shl p h = shl-exact {a = 1} 1 p 32 (omega arith) (omega arith) ∙ omega arith
+one-shl = shl-one 32
 
 -- a number of places fits a byte
 pub fits-byte : {n : ℕ} → n ≤ width → Fits w8 n

@@ -2,6 +2,7 @@ pub mod Drain
 pub mod Clock
 pub mod Device
 pub mod Number
+pub mod Gather
 pub mod Create
 pub mod HandBack
 pub mod LetGo

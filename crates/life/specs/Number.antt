@@ -1,16 +1,14 @@
 -- The search for the number of a new thread: the first of the 254 after the last one given that is not barred.
-use mathlib.Core.Path.{_≡_, refl, ap, _∙_}
+use mathlib.Core.Path.{_≡_, refl}
 use mathlib.Core.List.{List}
-use mathlib.Core.Bool.{Bool, true, false, cond, not, _&&_, _||_, or-true}
-use Prim.Native.Nat.{ℕ, zero, suc, _+_, _-_, _≤_, _<_}
-use native.Mathlib.Numerals.{add-one}
+use mathlib.Core.Bool.{Bool, true, false, not, _&&_, _||_, or-true}
+use Prim.Native.Nat.{ℕ, zero, suc, _+_, _≤_, _<_}
 use native.Mathlib.Omega.{arith}
 use borrow.Author.Tests.{ne-eqb}
 use lib.Dec.{eqb}
 use lib.ListN.{getD}
 use Rattle.lists.specs.Lists.{none, firstOf, upFrom}
 use Rattle.lists.specs.Laws.{by-test}
-use Rattle.rules.specs.Values.{nobody}
 use Rattle.rules.specs.Model.{places, lastNumber, allPlaces, thread, livesAt}
 use Rattle.rules.specs.Rules.{barred, successor, firstFree, nextNumber}
 use Rattle.table.specs.Cells.{cell, modelOf, standsAt}
@@ -73,40 +71,3 @@ free-ext f g e (suc k) n = rw (e (successor n), free-ext f g e k (successor n))
 
 pub number-is : (y x : ℕ) (b w l : List ℕ) → nextNumber (modelOf y x b w l) ≡ freeAfter b y
 number-is y x b w l = free-ext (barred (modelOf y x b w l)) (bars b) (λ n. barred-is y x n b w l) (suc lastNumber) y
-
--- ---- the loop over the places, at the place i
-
-module _ (b : List ℕ) (n i : ℕ) where
-  at : i < places → barsFrom b n i (places - i) ≡ barsAt b n i || barsFrom b n (suc i) (places - suc i)
-  unfolding barsFrom
-  at h = let e : places - i ≡ suc (places - suc i) = omega arith in rw e
-
-  pub bars-here : i < places → barsAt b n i ≡ true → barsFrom b n i (places - i) ≡ true
-  bars-here h t = at h ∙ rw t
-
-  pub bars-past : i < places → barsAt b n i ≡ false → barsFrom b n i (places - i) ≡ barsFrom b n (i + 1) (places - (i + 1))
-  bars-past h t = at h ∙ rw (t, add-one)
-
-  pub bars-none : places ≤ i → barsFrom b n i (places - i) ≡ false
-  unfolding barsFrom
-  bars-none h = let e : places - i ≡ 0 = omega arith in rw e
-
--- ---- the loop over the numbers: of the k after n, where j is the next and t says whether it is barred
-
-module _ (b : List ℕ) (k n : ℕ) {j : ℕ} {t : Bool} (e : j ≡ successor n) (f : t ≡ bars b j) where
-  one : (i : ℕ) → firstFree (bars b) (suc i) n ≡ cond t (firstFree (bars b) i j) j
-  unfolding firstFree
-  one i = rw (← e, ← f)
-
-  step : 0 < k → firstFree (bars b) k n ≡ cond t (firstFree (bars b) (k - 1) j) j
-  step h = let z : k ≡ suc (k - 1) = omega arith in ap (λ (i : ℕ). firstFree (bars b) i n) z ∙ one (k - 1)
-
-  pub free-here : 0 < k → t ≡ false → firstFree (bars b) k n ≡ j
-  free-here h z = step h ∙ rw z
-
-  pub free-past : 0 < k → t ≡ true → firstFree (bars b) k n ≡ firstFree (bars b) (k - 1) j
-  free-past h z = step h ∙ rw z
-
-pub free-none : (b : List ℕ) (k n : ℕ) → k ≡ 0 → firstFree (bars b) k n ≡ nobody
-unfolding firstFree
-free-none b k n e = rw e

@@ -5,7 +5,9 @@ ghost use Rattle.rules.specs.Model.{places};
 ghost use Rattle.rules.specs.declared.Event.the-variants.{Create};
 ghost use Rattle.table.specs.Cells.{Stands};
 ghost use Rattle.events.specs.Events.{Did};
+ghost use Rattle.bits.specs.Set.{Adds};
 ghost use Rattle.life.specs.Number.{barsAt, bars, freeAfter};
+use bits::Set;
 use events::Outcome;
 use events::answer;
 use lines::Links;
@@ -16,47 +18,37 @@ use table::Blocks;
 use table::Desk;
 use table::Words;
 
-// How many numbers there are.
-const NUMBERS: u8 = rules::LAST_NUMBER + 1;
-
-// Does the place p bar the number n: does its thread have that number, or an answer that names it?
-fn bars_at(b: &Blocks, n: Number, p: Place) -> bool
+// The numbers that the place p bars come into the set: its thread's, and the one that the thread's answer names.
+fn bar(b: &Blocks, p: Place, s: &mut Set)
     requires { ⌜ p .0 < places ⌝ }
-    ensures { λ r. ⌜ r ≡ barsAt (now (b .entry)) (n .0) (p .0) ⌝ }
+    ensures { λ _. ⌜ Adds (now (s .entry)) (λ n. barsAt (now (b .entry)) n (p .0)) (now (s .exit)) ⌝ }
 {
     let at = p.0 as usize;
-    (b[table::STANDING + at] != rules::EMPTY)
-        & ((b[table::NUMBER + at] == n.0) | (b[table::WHO + at] == n.0))
+    if b[table::STANDING + at] == rules::EMPTY {
+        return;
+    }
+    bits::insert(s, Number(b[table::NUMBER + at]));
+    bits::insert(s, Number(b[table::WHO + at]));
 }
 
-// Does any place bar the number n?
-fn barred(b: &Blocks, n: Number) -> bool
-    ensures { λ r. ⌜ r ≡ bars (now (b .entry)) (n .0) ⌝ }
+// The numbers that any place bars come into the set.
+fn gather(b: &Blocks, s: &mut Set)
+    ensures { λ _. ⌜ Adds (now (s .entry)) (bars (now (b .entry))) (now (s .exit)) ⌝ }
 {
     let mut p: u8 = 0;
     while p < lines::PLACES as u8 {
-        if bars_at(b, n, Place(p)) {
-            return true;
-        }
+        bar(b, Place(p), s);
         p += 1;
     }
-    false
 }
 
 // The first number after `last` that is not barred.
 fn next_number(b: &Blocks, last: Number) -> Number
     ensures { λ r. ⌜ r .0 ≡ freeAfter (now (b .entry)) (last .0) ⌝ }
 {
-    let mut n = last;
-    let mut left = NUMBERS;
-    while left > 0 {
-        n = counter::step(n);
-        if !barred(b, n) {
-            return n;
-        }
-        left -= 1;
-    }
-    Number(rules::NOBODY)
+    let mut s = bits::empty();
+    gather(b, &mut s);
+    bits::next_clear(&s, last)
 }
 
 // 1. The lowest empty place takes a thread with the next number that is not barred, which joins the back of ready.

@@ -11,6 +11,7 @@ pub mod Standings
 pub mod Dispatch
 pub mod Caller
 pub mod Numbers
+pub mod FirstFree
 pub mod Barred
 pub mod Create
 pub mod Send
