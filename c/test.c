@@ -240,7 +240,10 @@ static void try_fresh(size_t room, uint8_t code, struct part after) {
 static size_t contents_of(struct part im) { return im.at[0] == 1 ? 8 : 56; }
 static size_t contents_end(struct part im) { return contents_of(im) + 4 * (size_t)im.at[3]; }
 
-/* Whether somebody waits for the clock or, in edition 2, at a device: the head counts them up to the length at its end. */
+/* How long a body is without its inbox: the parent came with edition 3. */
+static size_t body_length(struct part im) { return im.at[0] < 3 ? 13 : 14; }
+
+/* Whether somebody waits for the clock or, from edition 2 on, at a device: the head counts them up to the length at its end. */
 static int somebody_waits(struct part im) {
     for (size_t i = 5; i < contents_of(im) - 2; i++) {
         if (im.at[i] != 0) return 1;
@@ -334,7 +337,7 @@ static void load_row(char **f) {
     /* every thread that the image's contents name */
     for (size_t i = contents_of(im); i < contents_end(im); i += 4) {
         size_t body = im.at[i + 2] | (size_t)im.at[i + 3] << 8;
-        try_look_up(im, im.at[i + 1], RUMQATISS_DONE, (uint16_t)body, (uint16_t)(13 + im.at[body + 12]));
+        try_look_up(im, im.at[i + 1], RUMQATISS_DONE, (uint16_t)body, (uint16_t)(body_length(im) + im.at[body + 12]));
     }
 }
 
@@ -391,7 +394,7 @@ static void try_table(const char *name, const char *path, int columns, void row(
 
 /* ---- the traces */
 
-static const uint8_t fresh_bytes[56] = { 2, 253, 255, [54] = 56 };
+static const uint8_t fresh_bytes[56] = { 3, 253, 255, [54] = 56 };
 static const struct part fresh = { fresh_bytes, sizeof fresh_bytes };
 static const uint8_t lengths[10] = RUMQATISS_RECORD_LENGTHS;
 
@@ -413,8 +416,8 @@ static struct part record_in(struct part log) {
     return rec;
 }
 
-/* The image that a record leaves, into b. The traces have the last image only. Those before it are what rumqatiss_replay makes of the record,
-   and rumqatiss_board must come to the same. */
+/* The image that a record leaves, or several, into b. The traces have the last image only. Those before it are what rumqatiss_replay makes of
+   the record, and rumqatiss_board must come to the same. */
 static struct part image_after(struct part im, struct part rec, uint8_t b[RUMQATISS_LONGEST_IMAGE]) {
     uint8_t kind, runs;
     uint32_t count, read;
@@ -474,7 +477,7 @@ static void try_traces(const char *path, char **logs, int n) {
 
 /* ---- what no table has */
 
-static const uint8_t first_bytes[73] = { 2, 0, 0, 1, [54] = 73, [58] = 60, [60] = 1, 255, [67] = 255 };
+static const uint8_t first_bytes[74] = { 3, 0, 0, 1, [54] = 74, [58] = 60, [60] = 1, 255, [67] = 255, [73] = 255 };
 static const struct part first = { first_bytes, sizeof first_bytes };
 static const struct chosen run_0 = { RUMQATISS_RUN, 0 }, wait = { RUMQATISS_WAIT, RUMQATISS_NOBODY };
 
@@ -546,11 +549,11 @@ static void try_refusals(void) {
    and 3. They join ready in the order of these groups. From then on nobody can listen for it. */
 static void try_end(void) {
     static char log[] = "010101010101" "0305" "020544332211" "0205efbeadde" "0305" "07" "0302" "07", end[] = "0505", receive[] = "0305";
-    static char ended[] = "020504050400" "000000000000000000000000000000000000000000000000"
-                          "000000000000000000000000000000000000000000000000" "9100"
-                          "00005000" "01015d00" "02026a00" "03037700" "04048400" "01020003"
-                          "02ff00000000" "100500000000" "00" "02ff00000000" "100544332211" "00" "02ff00000000" "1005efbeadde" "00"
-                          "02ff00000000" "100500000000" "00" "01ff00000000" "00ff00000000" "00";
+    static char ended[] = "030504050400" "000000000000000000000000000000000000000000000000"
+                          "000000000000000000000000000000000000000000000000" "9600"
+                          "00005000" "01015e00" "02026c00" "03037a00" "04048800" "01020003"
+                          "02ff00000000" "100500000000" "00ff" "02ff00000000" "100544332211" "0000" "02ff00000000" "1005efbeadde" "0000"
+                          "02ff00000000" "100500000000" "0000" "01ff00000000" "00ff00000000" "0000";
     uint8_t b[RUMQATISS_LONGEST_IMAGE], kind, runs;
     uint32_t count, read;
     uint16_t len;
@@ -563,13 +566,104 @@ static void try_end(void) {
     try_board(after, bytes_in(receive), ROOM, MARK, RUMQATISS_NOT_LIVE, c, RUMQATISS_NOBODY, none);
 }
 
+/* The running thread 1 ends, and with it its children 5 and 6, and 7, which is the child of 5: 7 first, then 5, 6 and 1. Each tells those
+   who stood in a call to it: 4 listens for 7; 3 and 6 have sent to 5, so that 6 is woken, and ends in its turn; 2 awaits the reply
+   of 6; and 0, the parent of 1, listens for it. They join ready in this order, and the first of them runs. The end of 5 alone takes 7
+   with it and nobody else. */
+static void try_family(void) {
+    static char log[] = "0101010101" "0301" "0101" "07" "020644332211" "0205efbeadde" "07" "01" "06" "0302" "0205785634f2" "07" "0307" "0921";
+    static char end_1[] = "0501", end_5[] = "0505";
+    static char ended_1[] = "030704040300" "000000000000000000000000000000000000000000000000"
+                            "000000000000000000000000000000000000000000000000" "8300"
+                            "00004b00" "02025900" "03036700" "04047500" "030200"
+                            "02ff00000000" "100100000000" "00ff" "02ff00000000" "100644332211" "0000" "02ff00000000" "1005efbeadde" "0000"
+                            "01ff00000000" "100700000000" "0000";
+    static char ended_5[] = "030701060300" "000000000000000000000000000000000000000000000000"
+                            "000000000000000000000000000000000000000000000000" "a700"
+                            "00005300" "01016100" "02026f00" "03037d00" "04048b00" "06069900" "040306"
+                            "050100000000" "00ff00000000" "00ff" "01ff00000000" "00ff00000000" "0000" "040644332211" "00ff00000000" "0000"
+                            "02ff00000000" "1005efbeadde" "0000" "02ff00000000" "100700000000" "0000" "02ff00000000" "1005785634f2" "0001";
+    uint8_t b[RUMQATISS_LONGEST_IMAGE];
+    struct part before = image_after(fresh, bytes_in(log), b);
+    struct chosen run_1 = { RUMQATISS_RUN, 1 }, run_4 = { RUMQATISS_RUN, 4 };
+    line = 1;
+    try_board(before, bytes_in(end_1), ROOM, MARK, RUMQATISS_DONE, run_4, RUMQATISS_NOBODY, bytes_in(ended_1));
+    line = 5;
+    try_board(before, bytes_in(end_5), ROOM, MARK, RUMQATISS_DONE, run_1, RUMQATISS_NOBODY, bytes_in(ended_5));
+}
+
+/* Threads 0 to n - 1, of which each was created by the one before it, which then went to wait for the clock. The last number given is 31.
+   Where the last thread runs it does not wait with the others. */
+static struct part chain(uint8_t b[RUMQATISS_LONGEST_IMAGE], uint8_t n, int runs) {
+    uint8_t waiting = (uint8_t)(n - runs);
+    size_t bodies = 56 + 4 * (size_t)n + waiting, all = bodies + 14 * (size_t)n;
+    memset(b, 0, all);
+    memcpy(b, (uint8_t[6]){ 3, 31, runs ? n - 1 : 255, n, 0, waiting }, 6);
+    b[54] = (uint8_t)all;
+    b[55] = (uint8_t)(all >> 8);
+    for (uint8_t i = 0; i < n; i++) {
+        size_t body = bodies + 14 * (size_t)i;
+        memcpy(b + 56 + 4 * i, (uint8_t[4]){ i, i, (uint8_t)body, (uint8_t)(body >> 8) }, 4);
+        if (i < waiting) b[56 + 4 * n + i] = i;
+        b[body] = i < waiting ? 6 : 1;
+        b[body + 1] = b[body + 7] = 255;
+        b[body + 13] = i == 0 ? 255 : i - 1;
+    }
+    return (struct part){ b, all };
+}
+
+/* The longest line of parents, 32 threads: the end of any of them ends all behind it too. The end of the first is what goes deepest, so that
+   the stack which that takes is measured here. */
+static void try_chain(void) {
+    uint8_t b[2][RUMQATISS_LONGEST_IMAGE], log[1 + 2 * 31] = { RUMQATISS_CREATE }, end[2] = { RUMQATISS_END, 0 };
+    struct part before = chain(b[0], 32, 1);
+    for (int i = 0; i < 31; i++) {
+        log[1 + 2 * i] = RUMQATISS_CREATE;
+        log[2 + 2 * i] = RUMQATISS_WAIT_CLOCK;
+    }
+    line = 0;
+    try_replay(fresh, (struct part){ log, sizeof log }, ROOM, RUMQATISS_DONE, choice_of(before), sizeof log, sizeof log, before);
+    for (line = 0; line < 32; line++) {
+        struct part rec = { end, 2 }, after = chain(b[1], (uint8_t)line, 0);
+        end[1] = (uint8_t)line;
+        try_board(before, rec, ROOM, MARK, RUMQATISS_DONE, choice_of(after), RUMQATISS_NOBODY, after);
+        try_replay(before, rec, ROOM, RUMQATISS_DONE, choice_of(after), 1, 2, after);
+    }
+}
+
+/* An image that no function takes. */
+static void try_refused(struct part im) {
+    static const uint8_t tick = RUMQATISS_TICK;
+    try_board(im, (struct part){ &tick, 1 }, ROOM, MARK, RUMQATISS_NO_IMAGE, halt, RUMQATISS_NOBODY, none);
+    try_replay(im, none, ROOM, RUMQATISS_NO_IMAGE, halt, 0, 0, none);
+    try_look_up(im, 0, RUMQATISS_NO_IMAGE, 0, 0);
+    try_update(im, ROOM, RUMQATISS_NO_IMAGE, halt, none);
+}
+
+/* Every byte as the parent of thread 0: in a pair where 1 has no parent, in one where 0 is the parent of 1, and in the longest line, where
+   each thread is the parent of the next. A parent that does not live, a thread that is its own parent, and a ring get 10. */
+static void try_parents(void) {
+    static const uint8_t threads[3] = { 2, 2, 32 };
+    uint8_t b[RUMQATISS_LONGEST_IMAGE];
+    for (int n = 0; n < 3; n++) {
+        struct part im = chain(b, threads[n], 1);
+        size_t parent = im.len - 14 * (size_t)threads[n] + 13;
+        if (n == 0) b[parent + 14] = RUMQATISS_NOBODY;
+        for (line = 0; line <= 255; line++) {
+            b[parent] = (uint8_t)line;
+            if (line == RUMQATISS_NOBODY || (n == 0 && line == 1)) try_updated(im, im);
+            else try_refused(im);
+        }
+    }
+}
+
 /* The last number given is 253, and thread 0 lives alone: a create gives 1, but where the thread's answer names 1, it gives 2. */
 static void try_named(void) {
     static const uint8_t create = RUMQATISS_CREATE, answers[2][6] = { { 0, 255 }, { 16, 1, 0x0d, 0xf0, 0xad, 0x8b } };
     struct part rec = { &create, 1 };
     for (line = 0; line < 2; line++) {
-        uint8_t given = (uint8_t)(1 + line), alone[73] = { 2, 253, 0, 1, [54] = 73, [58] = 60, [60] = 1, 255 };
-        uint8_t pair[91] = { 2, given, 0, 2, 1, [54] = 91, [58] = 65, [60] = 1, given, 78, [64] = 1, 1, 255, [78] = 2, 255, [85] = 255 };
+        uint8_t given = (uint8_t)(1 + line), alone[74] = { 3, 253, 0, 1, [54] = 74, [58] = 60, [60] = 1, 255, [73] = 255 };
+        uint8_t pair[93] = { 3, given, 0, 2, 1, [54] = 93, [58] = 65, [60] = 1, given, 79, [64] = 1, 1, 255, [78] = 255, 2, 255, [86] = 255 };
         struct part before = { alone, sizeof alone }, after = { pair, sizeof pair };
         memcpy(alone + 66, answers[line], 6);
         memcpy(pair + 71, answers[line], 6);
@@ -580,8 +674,8 @@ static void try_named(void) {
 
 /* The first thread waits at a device, which then interrupts. */
 static void try_devices(void) {
-    static const uint8_t waiting_bytes[74] = { 2, 0, 255, 1, [6 + 33] = 1, [54] = 74, [58] = 61, [61] = 7, 33, [68] = 255 };
-    static const uint8_t served_bytes[73] = { 2, 0, 0, 1, [54] = 73, [58] = 60, [60] = 1, 255, [67] = 255, 5 };
+    static const uint8_t waiting_bytes[75] = { 3, 0, 255, 1, [6 + 33] = 1, [54] = 75, [58] = 61, [61] = 7, 33, [68] = 255, [74] = 255 };
+    static const uint8_t served_bytes[74] = { 3, 0, 0, 1, [54] = 74, [58] = 60, [60] = 1, 255, [67] = 255, 5, [73] = 255 };
     static const uint8_t waits[] = { RUMQATISS_WAIT_DEVICE, RUMQATISS_RECEIVER(0) }, unknown = RUMQATISS_INTERRUPT + 1;
     static const uint8_t log[] = { RUMQATISS_CREATE, RUMQATISS_WAIT_DEVICE, 33, RUMQATISS_INTERRUPT, 0, 0, 0, 0, 2, 0, 5, 0, 0, 0 };
     static struct { char record[24]; int is_served; } rows[] = {
@@ -595,7 +689,7 @@ static void try_devices(void) {
     line = 0;
     try_board(first, (struct part){ waits, sizeof waits }, ROOM, MARK, RUMQATISS_DONE, wait, RUMQATISS_NOBODY, waiting);
     try_board(waiting, (struct part){ waits, sizeof waits }, ROOM, MARK, RUMQATISS_NOBODY_RUNS, wait, RUMQATISS_NOBODY, none);
-    try_look_up(waiting, 0, RUMQATISS_DONE, 61, 13);
+    try_look_up(waiting, 0, RUMQATISS_DONE, 61, 14);
     for (size_t i = 0; i < sizeof rows / sizeof rows[0]; i++) {
         struct part rec = bytes_in(rows[i].record);
         line = (int)i + 1;
@@ -614,57 +708,78 @@ _Static_assert(RUMQATISS_DEVICE(3, 0) == 0 && RUMQATISS_DEVICE(3, 7) == 7 && RUM
 _Static_assert(RUMQATISS_DEVICE(6, 7) == 31 && RUMQATISS_TRANSMITTER(0) == 32 && RUMQATISS_RECEIVER(0) == 33, "terminals");
 _Static_assert(RUMQATISS_TRANSMITTER(7) == 46 && RUMQATISS_RECEIVER(7) == 47 && RUMQATISS_DEVICES == 48, "the last terminal");
 
-/* Images of edition 1 are taken, and what comes of them is of edition 2. */
+/* Images of editions 1 and 2 are taken, and what comes of them is of edition 3. Nobody in them has a parent, so an end ends one thread. */
 static void try_editions(void) {
-    static const uint8_t old_fresh[] = { 1, 253, 255, 0, 0, 0, 8, 0 };
-    static char old_pair[] = "010100020100" "2b00" "00001100" "01011e00" "01" "01ff00000000" "00ff00000000" "00" "02ff00000000" "00ff00000000" "00";
-    static char pair[] = "020100020100" "000000000000000000000000000000000000000000000000"
-                         "000000000000000000000000000000000000000000000000" "5b00" "00004100" "01014e00" "01"
-                         "01ff00000000" "00ff00000000" "00" "02ff00000000" "00ff00000000" "00";
-    static const uint8_t tick = RUMQATISS_TICK;
+    static const uint8_t old_fresh[2][56] = { { 1, 253, 255, 0, 0, 0, 8, 0 }, { 2, 253, 255, [54] = 56 } };
+    static char first_pair[] = "010100020100" "2b00" "00001100" "01011e00" "01" "01ff00000000" "00ff00000000" "00" "02ff00000000" "00ff00000000" "00";
+    static char second_pair[] = "020100020100" "000000000000000000000000000000000000000000000000"
+                                "000000000000000000000000000000000000000000000000" "5b00" "00004100" "01014e00" "01"
+                                "01ff00000000" "00ff00000000" "00" "02ff00000000" "00ff00000000" "00";
+    static char pair[] = "030100020100" "000000000000000000000000000000000000000000000000"
+                         "000000000000000000000000000000000000000000000000" "5d00" "00004100" "01014f00" "01"
+                         "01ff00000000" "00ff00000000" "00ff" "02ff00000000" "00ff00000000" "00ff";
+    static char left[] = "030101010000" "000000000000000000000000000000000000000000000000"
+                         "000000000000000000000000000000000000000000000000" "4a00" "01013c00" "01ff00000000" "00ff00000000" "00ff";
+    static const uint8_t tick = RUMQATISS_TICK, end[] = { RUMQATISS_END, 0 };
     uint8_t b[RUMQATISS_LONGEST_IMAGE];
-    struct part old = bytes_in(old_pair), now = bytes_in(pair), changed = { b, 0 };
-    line = 0;
-    try_replay((struct part){ old_fresh, sizeof old_fresh }, none, ROOM, RUMQATISS_DONE, halt, 0, 0, fresh);
-    try_replay(old, none, ROOM, RUMQATISS_DONE, run_0, 0, 0, now);
-    try_board(old, (struct part){ &tick, 1 }, ROOM, MARK, RUMQATISS_DONE, run_0, RUMQATISS_NOBODY, now);
-    try_look_up(old, 1, RUMQATISS_DONE, 30, 13);
-    try_look_up(now, 1, RUMQATISS_DONE, 78, 13);
+    struct part old[2] = { bytes_in(first_pair), bytes_in(second_pair) }, now = bytes_in(pair), alone = bytes_in(left), changed = { b, 0 };
+    struct chosen run_1 = { RUMQATISS_RUN, 1 };
+    for (int i = 0; i < 2; i++) {
+        line = i + 1;
+        try_updated((struct part){ old_fresh[i], i == 0 ? 8 : 56 }, fresh);
+        try_replay((struct part){ old_fresh[i], i == 0 ? 8 : 56 }, none, ROOM, RUMQATISS_DONE, halt, 0, 0, fresh);
+        try_updated(old[i], now);
+        try_replay(old[i], none, ROOM, RUMQATISS_DONE, run_0, 0, 0, now);
+        try_board(old[i], (struct part){ &tick, 1 }, ROOM, MARK, RUMQATISS_DONE, run_0, RUMQATISS_NOBODY, now);
+        try_board(old[i], (struct part){ end, sizeof end }, ROOM, MARK, RUMQATISS_DONE, run_1, RUMQATISS_NOBODY, alone);
+    }
+    try_look_up(old[0], 1, RUMQATISS_DONE, 30, 13);
+    try_look_up(old[1], 1, RUMQATISS_DONE, 78, 13);
+    try_look_up(now, 1, RUMQATISS_DONE, 79, 14);
     /* nobody waits at a device in edition 1 */
-    memcpy(b, old.at, changed.len = old.len);
+    memcpy(b, old[0].at, changed.len = old[0].len);
     b[30] = 7;
     b[31] = 33;
     try_board(changed, (struct part){ &tick, 1 }, ROOM, MARK, RUMQATISS_NO_IMAGE, halt, RUMQATISS_NOBODY, none);
+    /* a body of edition 2 is none of edition 3, nor the other way round: their heads are alike, and only the edition says which it is */
+    memcpy(b, old[1].at, changed.len = old[1].len);
+    b[0] = 3;
+    try_refused(changed);
+    memcpy(b, now.at, changed.len = now.len);
+    b[0] = 2;
+    try_refused(changed);
     /* the edition comes before its head's length, and under 8 bytes before both */
     memcpy(b, fresh.at, fresh.len);
     for (line = 0; line <= 255; line++) {
         b[0] = (uint8_t)line;
         for (changed.len = 0; changed.len < fresh.len; changed.len++) {
-            int is_length = changed.len < 8 || line == 1 || line == 2;
+            int is_length = changed.len < 8 || (line >= 1 && line <= 3);
             try_look_up(changed, 0, is_length ? RUMQATISS_BAD_LENGTH : RUMQATISS_OTHER_EDITION, 0, 0);
             try_update(changed, ROOM, is_length ? RUMQATISS_BAD_LENGTH : RUMQATISS_OTHER_EDITION, halt, none);
         }
     }
 }
 
-/* One thread, which receives from each number in turn, in images of both editions: an update wakes it where no live thread has the
+/* One thread, which receives from each number in turn, in images of every edition: an update wakes it where no live thread has the
    number. What it may not name (254, and its own number) no rules allowed. */
 static void try_listener(void) {
-    static char old_image[] = "0100ff010000" "1900" "00000c00" "05ff00000000" "00ff00000000" "00";
-    static char new_image[] = "0200ff010000" "000000000000000000000000000000000000000000000000"
-                              "000000000000000000000000000000000000000000000000" "4900" "00003c00" "05ff00000000" "00ff00000000" "00";
-    struct part im[2] = { bytes_in(old_image), bytes_in(new_image) };
-    uint8_t listens[2][sizeof first_bytes], woken[sizeof first_bytes];
+    static char first_image[] = "0100ff010000" "1900" "00000c00" "05ff00000000" "00ff00000000" "00";
+    static char second_image[] = "0200ff010000" "000000000000000000000000000000000000000000000000"
+                                 "000000000000000000000000000000000000000000000000" "4900" "00003c00" "05ff00000000" "00ff00000000" "00";
+    static char third_image[] = "0300ff010000" "000000000000000000000000000000000000000000000000"
+                                "000000000000000000000000000000000000000000000000" "4a00" "00003c00" "05ff00000000" "00ff00000000" "00ff";
+    struct part im[3] = { bytes_in(first_image), bytes_in(second_image), bytes_in(third_image) };
+    uint8_t listens[3][sizeof first_bytes], woken[sizeof first_bytes];
     memcpy(woken, first_bytes, sizeof woken);
     woken[66] = 16;
     for (line = 0; line <= 255; line++) {
         woken[67] = (uint8_t)line;
-        for (int i = 0; i < 2; i++) {
+        for (int i = 0; i < 3; i++) {
             struct part by = { listens[i], im[i].len };
             memcpy(listens[i], im[i].at, im[i].len);
-            listens[i][im[i].len - 12] = (uint8_t)line;
+            listens[i][im[i].len - body_length(im[i]) + 1] = (uint8_t)line;
             if (line == RUMQATISS_NOBODY) {
-                try_updated(by, im[1]);
+                try_updated(by, im[2]);
                 continue;
             }
             try_replay(by, none, ROOM, RUMQATISS_NO_IMAGE, halt, 0, 0, none);
@@ -695,14 +810,14 @@ static void try_listeners(void) {
                            "030401020384" "00ff00000000" "00" "02ff00000000" "00ff07000000" "00" "040489efcdab" "100a77665544" "00"
                            "05ff00000000" "00ff00000000" "00" "072000000000" "000901000000" "00" "050900000000" "00ff00000000" "00"
                            "06ff00000000" "00ff00000000" "00";
-    static char after[] = "02fd000a0301" "000000000000000000000000000000000000000000000000"
-                          "000000000000000001000000000000000000000000000000" "e800"
-                          "00096500" "01047200" "02028000" "03088d00" "04019a00" "0503a700" "0607b400" "0705c100" "080bce00" "1f06db00"
-                          "040102" "1f" "07" "01ff00000000" "00ff00000000" "00"
-                          "02ff00000000" "10c800000000" "0103" "02ff00000000" "100a00000000" "00"
-                          "030401020384" "00ff00000000" "00" "02ff00000000" "00ff07000000" "00" "040489efcdab" "100a77665544" "00"
-                          "05ff00000000" "00ff00000000" "00" "072000000000" "000901000000" "00" "050900000000" "00ff00000000" "00"
-                          "06ff00000000" "00ff00000000" "00";
+    static char after[] = "03fd000a0301" "000000000000000000000000000000000000000000000000"
+                          "000000000000000001000000000000000000000000000000" "f200"
+                          "00096500" "01047300" "02028200" "03089000" "04019e00" "0503ac00" "0607ba00" "0705c800" "080bd600" "1f06e400"
+                          "040102" "1f" "07" "01ff00000000" "00ff00000000" "00ff"
+                          "02ff00000000" "10c800000000" "01ff03" "02ff00000000" "100a00000000" "00ff"
+                          "030401020384" "00ff00000000" "00ff" "02ff00000000" "00ff07000000" "00ff" "040489efcdab" "100a77665544" "00ff"
+                          "05ff00000000" "00ff00000000" "00ff" "072000000000" "000901000000" "00ff" "050900000000" "00ff00000000" "00ff"
+                          "06ff00000000" "00ff00000000" "00ff";
     line = 0;
     try_updated(bytes_in(before), bytes_in(after));
 }
@@ -710,9 +825,9 @@ static void try_listeners(void) {
 /* 32 threads, and each receives from a number of its own that nobody has: all are woken, and the first runs. */
 static void try_all_listen(void) {
     uint8_t before[56 + 32 * 17] = { 2, 31, 255, 32, [54] = 600 & 255, 600 >> 8 };
-    uint8_t after[56 + 32 * 17 + 31] = { 2, 31, 0, 32, 31, [54] = 631 & 255, 631 >> 8 };
+    uint8_t after[56 + 32 * 18 + 31] = { 3, 31, 0, 32, 31, [54] = 663 & 255, 663 >> 8 };
     for (uint8_t i = 0; i < 32; i++) {
-        uint16_t body = (uint16_t)(56 + 32 * 4 + 13 * i), later = (uint16_t)(body + 31);
+        uint16_t body = (uint16_t)(56 + 32 * 4 + 13 * i), later = (uint16_t)(56 + 32 * 4 + 31 + 14 * i);
         uint8_t entry[2][4] = { { i, i, (uint8_t)body, (uint8_t)(body >> 8) }, { i, i, (uint8_t)later, (uint8_t)(later >> 8) } };
         memcpy(before + 56 + 4 * i, entry[0], 4);
         memcpy(after + 56 + 4 * i, entry[1], 4);
@@ -724,6 +839,7 @@ static void try_all_listen(void) {
         after[later + 1] = 255;
         after[later + 6] = 16;
         after[later + 7] = (uint8_t)(100 + i);
+        after[later + 13] = 255;
     }
     line = 0;
     try_updated((struct part){ before, sizeof before }, (struct part){ after, sizeof after });
@@ -755,11 +871,11 @@ static uint32_t fill_log(uint8_t log[RUMQATISS_LONGEST_LOG], int at_devices) {
 /* The longest image: 32 threads, all of them waiting, for the clock or each at the device whose index is its number. */
 static void try_longest(int at_devices) {
     static const uint8_t create = RUMQATISS_CREATE;
-    uint8_t log[32 * 3], full[RUMQATISS_LONGEST_IMAGE] = { 2, 31, 255, 32, [54] = 632 & 255, 632 >> 8 };
+    uint8_t log[32 * 3], full[RUMQATISS_LONGEST_IMAGE] = { 3, 31, 255, 32, [54] = 664 & 255, 664 >> 8 };
     size_t n = 32;
     memset(log, RUMQATISS_CREATE, n);
     for (uint8_t i = 0; i < 32; i++) {
-        uint16_t body = (uint16_t)(56 + 32 * 4 + 32 + 13 * i);
+        uint16_t body = (uint16_t)(56 + 32 * 4 + 32 + 14 * i);
         log[n++] = at_devices ? RUMQATISS_WAIT_DEVICE : RUMQATISS_WAIT_CLOCK;
         if (at_devices) log[n++] = i;
         full[at_devices ? 6 + i : 5]++;
@@ -769,13 +885,14 @@ static void try_longest(int at_devices) {
         full[body] = at_devices ? 7 : 6;
         full[body + 1] = at_devices ? i : 255;
         full[body + 7] = 255;
+        full[body + 13] = i == 0 ? 255 : 0;
     }
     struct part all = { log, n }, after = { full, sizeof full }, rec = { &create, 1 };
     line = 0;
     try_replay(fresh, all, sizeof full, RUMQATISS_DONE, wait, 64, (uint32_t)n, after);
     try_replay(fresh, all, sizeof full - 1, RUMQATISS_SHORT_BUFFER, halt, 0, 0, none);
     try_board(after, rec, ROOM, MARK, RUMQATISS_FULL, wait, RUMQATISS_NOBODY, none);
-    try_look_up(after, 31, RUMQATISS_DONE, RUMQATISS_LONGEST_IMAGE - 13, 13);
+    try_look_up(after, 31, RUMQATISS_DONE, RUMQATISS_LONGEST_IMAGE - 14, 14);
     static uint8_t longest[RUMQATISS_LONGEST_LOG];
     uint32_t count = fill_log(longest, at_devices);
     try_replay(after, (struct part){ longest, sizeof longest }, sizeof full, RUMQATISS_DONE, wait, count, RUMQATISS_LONGEST_LOG, after);
@@ -797,7 +914,7 @@ static void try_large(void) {
     try_replay(large, large, ROOM, RUMQATISS_BAD_LENGTH, halt, 0, 0, none);
     try_look_up(large, 0, RUMQATISS_BAD_LENGTH, 0, 0);
     try_update(large, ROOM, RUMQATISS_BAD_LENGTH, halt, none);
-    b[0] = 3;
+    b[0] = 9;
     try_board(large, rec, ROOM, MARK, RUMQATISS_OTHER_EDITION, halt, RUMQATISS_NOBODY, none);
     try_update(large, ROOM, RUMQATISS_OTHER_EDITION, halt, none);
 }
@@ -838,6 +955,12 @@ int main(int argc, char **argv) {
     try_refusals();
     table = "end";
     try_end();
+    table = "end of a family";
+    try_family();
+    table = "end of the longest line of parents";
+    try_chain();
+    table = "parents";
+    try_parents();
     table = "a number that an answer names";
     try_named();
     table = "devices";
@@ -858,8 +981,8 @@ int main(int argc, char **argv) {
     try_large();
     table = "null pointers";
     try_nulls();
-    printf("limits: record lengths, refusals, an end, a named number, devices, editions, updates, the longest images, large buffers and "
-           "null pointers agree\n");
+    printf("limits: record lengths, refusals, an end, families, parents, a named number, devices, editions, updates, the longest images, large "
+           "buffers and null pointers agree\n");
     if (stack_used() > RUMQATISS_STACK) {
         printf("stack: %d bytes used, %d promised\n", (int)stack_used(), RUMQATISS_STACK);
         return 1;

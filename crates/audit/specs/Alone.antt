@@ -31,8 +31,10 @@ clean-of t z e =
     let w = eqb-true (t .word) 0 (and-left _ _ e₂) in
     let c = eqb-true (t .code) 0 (and-left _ _ e₃) in
     let k = eqb-true (t .who) nobody (and-left _ _ e₄) in
-    let a = eqb-true (t .answer) 0 (and-right (eqb (t .who) nobody) _ e₄) in
-    λ i. record { number = n i; standing = z i; partner = p i; word = w i; code = c i; who = k i; answer = a i }
+    let e₅ = and-right (eqb (t .who) nobody) _ e₄ in
+    let a = eqb-true (t .answer) 0 (and-left _ _ e₅) in
+    let f = eqb-true (t .parent) nobody (and-right (eqb (t .answer) 0) _ e₅) in
+    λ i. record { number = n i; standing = z i; partner = p i; word = w i; code = c i; who = k i; answer = a i; parent = f i }
 
 module _ (t : Thread) (e : fits t ≡ true) where
   test : t .standing ≢ Empty → isNumber (t .number) && (asTable (t .standing) (t .partner) (t .word) && ((eqb (t .standing) AtDevice || not (eqb (t .partner) (t .number))) && isAnswer (t .code) (t .who) (t .answer))) ≡ true

@@ -11,19 +11,22 @@ use lib.Dec.{eqb, ltb}
 use borrow.Author.Tests.{eqb-true, eq-eqb, ne-eqb, leb-true, ltb-true, lt-ltb, le-ltb, not-true}
 use Rattle.lists.specs.Lists.{none, bit, count}
 use Rattle.lists.specs.Laws.{never, and-left, and-right}
+use Rattle.kin.specs.Climb.{climb}
 use Rattle.rules.specs.Values.{nobody}
 use Rattle.rules.specs.Model.{places, devices, queueCount, lastNumber, Empty, Ready, Sending, Awaiting, Receiving, Waiting, AtDevice, Thread, vacant, Model, ready, clock, device, inbox, lineCount, thread, line}
 use Rattle.rules.specs.Rules.{hears, isNil}
-use Rattle.rules.specs.Consistent.{isNumber, asTable, belongs, OldConsistent, ListensToLive, ConsistentBy}
-use Rattle.order.specs.Sound.{Fit, numbered, Sound, old-whole, out, inside}
+use Rattle.rules.specs.Consistent.{isNumber, asTable, above, belongs, OldConsistent, ListensToLive, ConsistentBy}
+use Rattle.order.specs.Sound.{Fit, numbered, Sound, Kin, old-whole, out, inside}
 use Rattle.order.specs.ByLine.{by-line, at-device, at-inbox}
 use Rattle.order.specs.Belongs.{Lineless, in-none, in-ready, in-clock, in-device}
-use Rattle.audit.specs.Tests.{fits, astray, home, runsAlone, unheard, namesLive, placeTest, deskTest, Homes, Index}
+use Rattle.audit.specs.Tests.{fits, astray, home, runsAlone, unheard, namesLive, parentFound, placeTest, deskTest, Homes, Index}
 use Rattle.audit.specs.Alone.{fit-of, named, home-none, no-line, found}
 
+-- (`ends` is what the walks from parent to parent have told: in the rules' words, which take a Sound nucleus, with a byte for each parent.)
 module _ (strict : Bool) (m : Model) (sized : length (m .threads) ≡ places) (lined : length (m .lines) ≡ lineCount) (at who : List ℕ) (W : Homes m at) (X : Index m who)
     (bounds : (p : ℕ) → (thread m p .word < 2 ^ 32) × (thread m p .answer < 2 ^ 32))
-    (good : (p : ℕ) → p < places → placeTest strict m at who p ≡ true) (desk : deskTest m ≡ true) where
+    (good : (p : ℕ) → p < places → placeTest strict m at who p ≡ true) (desk : deskTest m ≡ true)
+    (ends : Sound m → ((p : ℕ) → thread m p .parent ≤ nobody) → (p : ℕ) → p < places → (k : ℕ) × (climb (above m) k p ≡ none)) where
   fit : (p : ℕ) → Fit (thread m p)
   fit p = fit-of (thread m p) (elim (decLt p places) [ yes h ↦ and-left (fits (thread m p)) _ (good p h) | no h ↦ rw (out m sized p (omega arith)) ]) (bounds p)
 
@@ -31,20 +34,23 @@ module _ (strict : Bool) (m : Model) (sized : length (m .threads) ≡ places) (l
   abbrev met : ℕ → ℕ
   met p = getD who (thread m p .partner) 0
 
-  good₁ : (p : ℕ) → p < places → runsAlone (m .running) p (thread m p) && (eqb (getD at p 0) (home who (thread m p)) && (unheard (thread m (met p)) (thread m p) && namesLive strict (met p) (thread m p))) ≡ true
+  good₁ : (p : ℕ) → p < places → runsAlone (m .running) p (thread m p) && (eqb (getD at p 0) (home who (thread m p)) && (unheard (thread m (met p)) (thread m p) && (namesLive strict (met p) (thread m p) && parentFound who (thread m p)))) ≡ true
   good₁ p h = and-right (fits (thread m p)) _ (good p h)
 
-  good₂ : (p : ℕ) → p < places → eqb (getD at p 0) (home who (thread m p)) && (unheard (thread m (met p)) (thread m p) && namesLive strict (met p) (thread m p)) ≡ true
+  good₂ : (p : ℕ) → p < places → eqb (getD at p 0) (home who (thread m p)) && (unheard (thread m (met p)) (thread m p) && (namesLive strict (met p) (thread m p) && parentFound who (thread m p))) ≡ true
   good₂ p h = and-right (runsAlone (m .running) p (thread m p)) _ (good₁ p h)
 
   at-home : (p : ℕ) → p < places → getD at p 0 ≡ home who (thread m p)
   at-home p h = eqb-true _ _ (and-left (eqb (getD at p 0) (home who (thread m p))) _ (good₂ p h))
 
-  good₃ : (p : ℕ) → p < places → unheard (thread m (met p)) (thread m p) && namesLive strict (met p) (thread m p) ≡ true
+  good₃ : (p : ℕ) → p < places → unheard (thread m (met p)) (thread m p) && (namesLive strict (met p) (thread m p) && parentFound who (thread m p)) ≡ true
   good₃ p h = and-right (eqb (getD at p 0) (home who (thread m p))) _ (good₂ p h)
 
   silent : (p : ℕ) → p < places → unheard (thread m (met p)) (thread m p) ≡ true
   silent p h = and-left (unheard (thread m (met p)) (thread m p)) _ (good₃ p h)
+
+  good₄ : (p : ℕ) → p < places → namesLive strict (met p) (thread m p) && parentFound who (thread m p) ≡ true
+  good₄ p h = and-right (unheard (thread m (met p)) (thread m p)) _ (good₃ p h)
 
   -- nobody is astray: the partner is found
   partner : (p : ℕ) → Sending ≤ thread m p .standing → thread m p .standing ≤ Awaiting → getD who (thread m p .partner) 0 < places
@@ -70,7 +76,8 @@ module _ (strict : Bool) (m : Model) (sized : length (m .threads) ≡ places) (l
       → (thread m (getD who (thread m p .partner) 0) .standing ≢ Empty) × (thread m (getD who (thread m p .partner) 0) .number ≡ thread m p .partner)
   lives-there p i j =
       let l = partner p i j in
-      let b = X .back (thread m p .partner) (named (thread m p) (fit p .table (λ z. omega arith)) i j) (λ z. omega arith) in
+      let low = named (thread m p) (fit p .table (λ z. omega arith)) i j in
+      let b = X .back (thread m p .partner) (omega arith) (λ z. omega arith) in
       (b .1, b .2)
 
   -- a sender's home is the inbox of its partner's place, and no other
@@ -183,21 +190,44 @@ module _ (strict : Bool) (m : Model) (sized : length (m .threads) ≡ places) (l
     stood = stood;
   }
 
+  -- a parent is nobody, or a number that is found
+  named-parent : (p : ℕ) → p < places → thread m p .parent ≢ nobody → (thread m p .parent ≤ lastNumber) × (getD who (thread m p .parent) 0 < places)
+  named-parent p h k =
+      let t : isNumber (thread m p .parent) && ltb (getD who (thread m p .parent) 0) places ≡ true =
+      rw (ne-eqb (thread m p .parent) nobody k) at (and-right (namesLive strict (met p) (thread m p)) _ (good₄ p h)) in
+      (leb-true _ _ (and-left (isNumber (thread m p .parent)) _ t), ltb-true _ _ (and-right (isNumber (thread m p .parent)) _ t))
+
+  low-parent : (p : ℕ) → thread m p .parent ≤ nobody
+  low-parent p = elim (decLt p places) [
+    | no h ↦ rw (out m sized p (omega arith)) (omega arith)
+    | yes h ↦ elim (ℕ-discrete (thread m p .parent) nobody) [ yes z ↦ omega arith | no k ↦ let v = named-parent p h k .0 in omega arith ]
+  ]
+
+  kin : Kin m
+  kin = record {
+    parented = λ p h k.
+        let v = named-parent p (inside m sized p h) k in
+        let b = X .back (thread m p .parent) (low-parent p) (λ z. omega (arith, v .1)) in
+        (getD who (thread m p .parent) 0, b .1, b .2);
+    rooted = λ p h. ends steady low-parent p (inside m sized p h);
+  }
+
   nil : (l : List ℕ) → isNil l ≡ true → l ≡ []
   nil [] e = refl
   nil (x ∷ l) e = never refl (sym e)
 
   old : OldConsistent m
-  old = old-whole m steady (λ z. nil (line m ready) (rw (eq-eqb (m .running) none z) at (and-right (isNumber (m .last)) _ desk)))
+  old = old-whole m steady (λ z. nil (line m ready) (rw (eq-eqb (m .running) none z) at (and-right (isNumber (m .last)) _ desk))) kin
 
   -- whom a receiver names is found
   listens : strict ≡ true → ListensToLive m
   listens e p five k =
-      let t : namesLive strict (met p) (thread m p) ≡ true = and-right (unheard (thread m (met p)) (thread m p)) _ (good₃ p (inside m sized p (λ z. omega arith))) in
+      let t : namesLive strict (met p) (thread m p) ≡ true = and-left (namesLive strict (met p) (thread m p)) _ (good₄ p (inside m sized p (λ z. omega arith))) in
       let l : met p < places = ltb-true _ _ (rw (e, five, ne-eqb (thread m p .partner) nobody k) at t) in
       let r : asTable Receiving (thread m p .partner) (thread m p .word) ≡ true = rw five at (fit p .table (λ z. omega arith)) in
       let a : isNumber (thread m p .partner) || false ≡ true = rw (ne-eqb (thread m p .partner) nobody k) at (and-left (isNumber (thread m p .partner) || eqb (thread m p .partner) nobody) _ r) in
-      let b = X .back (thread m p .partner) (leb-true _ _ (sym (or-false (isNumber (thread m p .partner))) ∙ a)) (λ z. omega arith) in
+      let low : thread m p .partner ≤ lastNumber = leb-true _ _ (sym (or-false (isNumber (thread m p .partner))) ∙ a) in
+      let b = X .back (thread m p .partner) (omega arith) (λ z. omega arith) in
       (met p, b .1, b .2)
 
   judged-by : (b : Bool) → strict ≡ b → ConsistentBy b m

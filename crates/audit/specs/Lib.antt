@@ -3,4 +3,5 @@ pub mod Alone
 pub mod Judge
 pub mod Passes
 pub mod Loops
+pub mod Rings
 pub mod Whole

@@ -21,13 +21,13 @@ use Rattle.rules.specs.Consistent.{OldConsistent}
 use Rattle.table.specs.Cells.{cell, modelOf, standsAt}
 use Rattle.table.specs.Rows.{thread-at, thread-past, line-at}
 use Rattle.table.specs.Choose.{nil-front}
-use Rattle.audit.specs.Tests.{fits, home, runsAlone, unheard, namesLive, seatTest, placeTest, deskTest, Index}
+use Rattle.audit.specs.Tests.{fits, home, runsAlone, unheard, namesLive, parentFound, seatTest, placeTest, deskTest, Index}
 
--- five answers of the code, and the test that they make up
-pub seat-test : (strict : Bool) (m : Model) (at who : List ℕ) (p r h : ℕ) (t : Thread) (a b q n : Bool) → t ≡ thread m p → r ≡ getD who (t .partner) 0
-    → a ≡ fits t → b ≡ runsAlone (m .running) p t → h ≡ home who t → q ≡ unheard (thread m r) t → n ≡ namesLive strict r t
-    → a && (b && (eqb (getD at p 0) h && (q && n))) ≡ placeTest strict m at who p
-seat-test strict m at who p r h t a b q n s z ea eb eh eq en = rw (ea, eb, eh, eq, en, z) (ap (seatTest strict m at who p) s)
+-- six answers of the code, and the test that they make up
+pub seat-test : (strict : Bool) (m : Model) (at who : List ℕ) (p r h : ℕ) (t : Thread) (a b q n k : Bool) → t ≡ thread m p → r ≡ getD who (t .partner) 0
+    → a ≡ fits t → b ≡ runsAlone (m .running) p t → h ≡ home who t → q ≡ unheard (thread m r) t → n ≡ namesLive strict r t → k ≡ parentFound who t
+    → a && (b && (eqb (getD at p 0) h && (q && (n && k)))) ≡ placeTest strict m at who p
+seat-test strict m at who p r h t a b q n k s z ea eb eh eq en ek = rw (ea, eb, eh, eq, en, ek, z) (ap (seatTest strict m at who p) s)
 
 -- how many numbers a byte has
 abbrev pub bytes : ℕ

@@ -13,13 +13,13 @@ use Rattle.lists.specs.Lists.{none}
 use Rattle.lists.specs.Laws.{never, and-both}
 use Rattle.lists.specs.Tables.{bit-same}
 use Rattle.rules.specs.Values.{nobody}
-use Rattle.rules.specs.Model.{places, Running, Ready, Sending, Awaiting, Receiving, Waiting, AtDevice, Model, ready, clock, device, inbox, lineCount, thread}
+use Rattle.rules.specs.Model.{places, lastNumber, Running, Ready, Sending, Awaiting, Receiving, Waiting, AtDevice, Thread, Model, ready, clock, device, inbox, lineCount, thread}
 use Rattle.rules.specs.Rules.{isNil}
 use Rattle.rules.specs.Consistent.{isNumber, belongs, OldConsistent, ConsistentBy}
 use Rattle.order.specs.ByLine.{at-device, at-inbox}
 use Rattle.order.specs.Sound.{old-sound, old-of, inside, at-index}
 use Rattle.order.specs.Belongs.{Lineless, in-none}
-use Rattle.audit.specs.Tests.{fits, home, runsAlone, unheard, namesLive, placeTest, deskTest, Homes, Index}
+use Rattle.audit.specs.Tests.{fits, home, runsAlone, unheard, namesLive, parentFound, placeTest, deskTest, Homes, Index}
 use Rattle.audit.specs.Alone.{fit-fits, home-none, found}
 
 module _ (strict : Bool) (m : Model) (at who : List ℕ) (W : Homes m at) (X : Index m who) (K : ConsistentBy strict m) where
@@ -98,12 +98,25 @@ module _ (strict : Bool) (m : Model) (at who : List ℕ) (W : Homes m at) (X : I
     ])
   ]
 
+  -- and so is a parent
+  parent-found : (p : ℕ) → parentFound who (thread m p) ≡ true
+  parent-found p = elim (ℕ-discrete (thread m p .parent) nobody) [
+    | yes z ↦ rw (eq-eqb (thread m p .parent) nobody z)
+    | no k ↦
+        let v = C .parented p (λ z. k (ap (λ (t : Thread). t .parent) (C .clean p z))) k in
+        let f = found m (C .threads) X (v .0) (thread m p .parent) (v .1) (v .2) in
+        let n = C .numbers (v .0) (v .1) in
+        let e = v .2 in
+        rw (ne-eqb (thread m p .parent) nobody k, le-leb (thread m p .parent) lastNumber (omega arith), f) (lt-ltb (v .0) places (inside m (C .threads) (v .0) (v .1)))
+  ]
+
   pub passes : (p : ℕ) → p < places → placeTest strict m at who p ≡ true
   passes p h =
       and-both (fits (thread m p)) _ (fit-fits (thread m p) (old-sound m C .fits p))
       (and-both (runsAlone (m .running) p (thread m p)) _ alone
       (and-both (eqb (getD at p 0) (home who (thread m p))) _ (eq-eqb _ _ (home-at p h))
-      (and-both (unheard (thread m (getD who (thread m p .partner) 0)) (thread m p)) _ (quiet p) (listened strict K p))))
+      (and-both (unheard (thread m (getD who (thread m p .partner) 0)) (thread m p)) _ (quiet p)
+      (and-both (namesLive strict (getD who (thread m p .partner) 0) (thread m p)) _ (listened strict K p) (parent-found p)))))
     where
       alone : runsAlone (m .running) p (thread m p) ≡ true
       alone = elim (ℕ-discrete (thread m p .standing) Running) [

@@ -9,13 +9,13 @@ use lib.ListN.{getD}
 use lib.Dec.{eqb, ltb}
 use Rattle.lists.specs.Lists.{none, bit, count}
 use Rattle.rules.specs.Values.{nobody}
-use Rattle.rules.specs.Model.{places, devices, lastNumber, Empty, Running, Ready, Sending, Awaiting, Receiving, Waiting, AtDevice, Thread, Model, ready, clock, device, inbox, lineCount, thread, line}
+use Rattle.rules.specs.Model.{places, devices, Empty, Running, Ready, Sending, Awaiting, Receiving, Waiting, AtDevice, Thread, Model, ready, clock, device, inbox, lineCount, thread, line}
 use Rattle.rules.specs.Rules.{idle, hears, isNil}
 use Rattle.rules.specs.Consistent.{isNumber, asTable, isAnswer}
 
 -- one fixed clean value
 abbrev pub isClean : Thread → Bool
-isClean t = eqb (t .number) nobody && (eqb (t .partner) nobody && (eqb (t .word) 0 && (eqb (t .code) 0 && (eqb (t .who) nobody && eqb (t .answer) 0))))
+isClean t = eqb (t .number) nobody && (eqb (t .partner) nobody && (eqb (t .word) 0 && (eqb (t .code) 0 && (eqb (t .who) nobody && (eqb (t .answer) 0 && eqb (t .parent) nobody)))))
 
 -- what a place must be, taken alone
 abbrev pub fits : Thread → Bool
@@ -50,11 +50,15 @@ unheard d t = cond (eqb (t .standing) Sending) (not (hears d (t .number))) true
 abbrev pub namesLive : Bool → ℕ → Thread → Bool
 namesLive strict r t = cond strict (cond (eqb (t .standing) Receiving) (eqb (t .partner) nobody || ltb r places) true) true
 
+-- a parent is nobody, or a number that is found
+abbrev pub parentFound : List ℕ → Thread → Bool
+parentFound who t = eqb (t .parent) nobody || isNumber (t .parent) && ltb (getD who (t .parent) 0) places
+
 -- all of these, of a thread t that stands at p
 abbrev pub seatTest : Bool → Model → List ℕ → List ℕ → ℕ → Thread → Bool
 seatTest strict m at who p t =
     let r = getD who (t .partner) 0 in
-    fits t && (runsAlone (m .running) p t && (eqb (getD at p 0) (home who t) && (unheard (thread m r) t && namesLive strict r t)))
+    fits t && (runsAlone (m .running) p t && (eqb (getD at p 0) (home who t) && (unheard (thread m r) t && (namesLive strict r t && parentFound who t))))
 
 abbrev pub placeTest : Bool → Model → List ℕ → List ℕ → ℕ → Bool
 placeTest strict m at who p = seatTest strict m at who p (thread m p)
@@ -72,5 +76,5 @@ pub record Homes (m : Model) (at : List ℕ) : Type 0 where
 -- who[n] is the place of the live number n, or none
 pub record Index (m : Model) (who : List ℕ) : Type 0 where
   pub to : (p : ℕ) → p < places → thread m p .standing ≢ Empty → getD who (thread m p .number) 0 ≡ p
-  pub back : (n : ℕ) → n ≤ lastNumber → getD who n 0 ≢ none
+  pub back : (n : ℕ) → n ≤ nobody → getD who n 0 ≢ none
       → (getD who n 0 < places) × (thread m (getD who n 0) .standing ≢ Empty) × (thread m (getD who n 0) .number ≡ n)

@@ -26,13 +26,15 @@ use Rattle.table.specs.declared.Desk.{Desk}
 use Rattle.audit.specs.Tests.{placeTest, deskTest, Homes}
 use Rattle.audit.specs.Judge.{judged}
 use Rattle.audit.specs.Passes.{passes, seated}
-use Rattle.audit.specs.Loops.{Indexed, Twice, AllPass, indexed, twice-not}
+use Rattle.audit.specs.Loops.{Indexed, Twice, indexed, twice-not}
+use Rattle.audit.specs.Rings.{Rises, Ring, ends-above, ring-not}
 
--- every place passes, with an index of the numbers
+-- every place passes, with an index of the numbers, and by that index parents form no ring
 pub record Members (strict : Bool) (x : ℕ) (b w at : List ℕ) : Type 0 where
   pub who : List ℕ
   pub index : Indexed b who places
   pub tests : (p : ℕ) → p < places → placeTest strict (modelOf 0 x b w []) at who p ≡ true
+  pub ends : (p : ℕ) → p < places → Rises b who p
 
 -- no nucleus of these places is consistent
 pub record Strangers (strict : Bool) (x : ℕ) (b w at : List ℕ) : Type 0 where
@@ -42,15 +44,16 @@ module _ {strict : Bool} {x : ℕ} {b w at : List ℕ} where
   pub strangers-twice : Twice b → Strangers strict x b w at
   strangers-twice t = record { never = λ y l W C. twice-not y x w l t (old-of strict C) }
 
-  pub told : {who : List ℕ} → Indexed b who places → {r : Bool} → AllPass r (placeTest strict (modelOf 0 x b w []) at who) → Tells r (Members strict x b w at) (Strangers strict x b w at)
-  told {who} k t = record {
-    yes = λ e. record { who = who; index = k; tests = t .yes e };
-    no = λ e. record {
-      never = λ y l W C.
-          let v = t .no e in
-          never (passes strict (modelOf y x b w l) at who W (indexed y x w l k) C (v .0) (v .1)) (v .2);
-    };
-  }
+  module _ {who : List ℕ} (k : Indexed b who places) where
+    pub strangers-one : (p : ℕ) × (p < places) × (placeTest strict (modelOf 0 x b w []) at who p ≡ false) → Strangers strict x b w at
+    strangers-one v = record { never = λ y l W C. never (passes strict (modelOf y x b w l) at who W (indexed y x w l k) C (v .0) (v .1)) (v .2) }
+
+    pub told : ((p : ℕ) → p < places → placeTest strict (modelOf 0 x b w []) at who p ≡ true) → {r : Bool} → Tells r ((p : ℕ) → p < places → Rises b who p) (Ring b who)
+        → Tells r (Members strict x b w at) (Strangers strict x b w at)
+    told t s = record {
+      yes = λ e. record { who = who; index = k; tests = t; ends = s .yes e };
+      no = λ e. record { never = λ y l W C. ring-not y x w l k (s .no e) (old-of strict C) };
+    }
 
 -- what the survey of the lines found, in the model
 pub found : {l at : List ℕ} (y x : ℕ) (b w : List ℕ) → Lines.Whereabouts places lineCount l at → Homes (modelOf y x b w l) at
@@ -74,7 +77,7 @@ consists strict d {b} {w} {l} {at} k s e fit =
       | yes h ↦ rw (thread-at (d .last .0) (d .running .0) b w l p h) (fit (cell 0 p), fit (cell 1 p))
       | no h ↦ rw (thread-past (d .last .0) (d .running .0) b w l p (omega arith)) (omega arith, omega arith)
     ])
-    (s .tests) e
+    (s .tests) e (λ S low p h. ends-above (d .last .0) (d .running .0) w l (s .index) S low (s .ends p h))
 
 module _ {strict : Bool} {d : Desk} {b w l : List ℕ} where
   pub not-tidy : (Tidy places lineCount l → ⊥) → StandsBy strict d b w l → ⊥

@@ -1,5 +1,6 @@
 // The total test of consistency: any desk and any arrays, however mangled, are told apart into those that stand for a consistent nucleus and those that do
-// not. It goes once along every line and twice along the places, and keeps two arrays on the way: the line of each place, and the place of each number.
+// not. It goes once along every line, four times along the places and once up from each place to its parent's, and keeps three arrays on the way: the line of
+// each place, the place of each number, and the stamp of the walk from parent to parent that came to a place first.
 ghost use mathlib.Core.Path.{_≡_};
 ghost use mathlib.Core.List.{List, []};
 ghost use Prim.Native.Nat.{ℕ, _+_, _^_, _<_};
@@ -9,8 +10,9 @@ ghost use Rattle.lines.specs.Lines.{Tidy};
 ghost use Rattle.rules.specs.Model.{places, lineCount, thread};
 ghost use Rattle.rules.specs.Consistent.{asTable, isAnswer};
 ghost use Rattle.table.specs.Cells.{modelOf, shown, Filled, StandsBy, Stands, asThread};
-ghost use Rattle.audit.specs.Tests.{isClean, fits as fitting, home as homeOf, runsAlone, unheard as quietTo, namesLive, placeTest, deskTest};
+ghost use Rattle.audit.specs.Tests.{isClean, fits as fitting, home as homeOf, runsAlone, unheard as quietTo, namesLive, parentFound, placeTest, deskTest};
 ghost use Rattle.audit.specs.Loops.{Indexed, Twice, AllPass};
+ghost use Rattle.audit.specs.Rings.{Rises, Ring, Stamped};
 ghost use Rattle.audit.specs.Whole.{Members, Strangers};
 use lines::DEVICES;
 use lines::Links;
@@ -97,7 +99,7 @@ fn is_clean(t: Thread) -> bool
     ensures { λ r. ⌜ r ≡ isClean (asThread t) ⌝ }
 {
     let a = t.answer;
-    let empty = (a.code == 0) & ((a.who.0 == NOBODY) & (a.word == 0));
+    let empty = (a.code == 0) & ((a.who.0 == NOBODY) & ((a.word == 0) & (t.parent.0 == NOBODY)));
     (t.number.0 == NOBODY) & ((t.partner.0 == NOBODY) & ((t.word == 0) & empty))
 }
 
@@ -187,6 +189,15 @@ fn names_live(strict: bool, r: Place, t: Thread) -> bool
     (t.partner.0 == NOBODY) | (r.0 < LIMIT)
 }
 
+// Is the parent of t nobody, or a number that is found?
+fn parented(who: &[u8; ENTRIES], t: Thread) -> bool
+    ensures { λ r. ⌜ r ≡ parentFound (now (who .entry)) (asThread t) ⌝ }
+{
+    let n = t.parent.0;
+    let found = who[wide(n)] < LIMIT;
+    (n == NOBODY) | (n <= LAST_NUMBER) & found
+}
+
 // Does the place p pass, with all that it has to do with others?
 fn place(
     strict: bool,
@@ -203,8 +214,8 @@ fn place(
     let t = table::read(b, w, p);
     let r = Place(who[wide(t.partner.0)]);
     let seated = at[p.0 as usize] == home(who, t);
-    let heard = unheard(b, r, t) & names_live(strict, r, t);
-    fits(t) & (runs_alone(running, p, t) & (seated & heard))
+    let others = unheard(b, r, t) & (names_live(strict, r, t) & parented(who, t));
+    fits(t) & (runs_alone(running, p, t) & (seated & others))
 }
 
 // ---- the index of numbers
@@ -234,6 +245,44 @@ fn index(b: &Blocks, who: &mut [u8; ENTRIES]) -> bool
     let mut p: u8 = 0;
     while p < LIMIT {
         if !enter(b, who, Place(p)) {
+            return false;
+        }
+        p += 1;
+    }
+    true
+}
+
+// ---- parents
+
+// From parent to parent, does one come from the place p to nobody? Each place on the way is stamped with p + 1, and a stamp stops the walk, so that all walks
+// together leave each place once. An older stamp says that one comes from there to nobody, the walk's own that it has come back: parents form a ring.
+fn ends(b: &Blocks, who: &[u8; ENTRIES], stamps: &mut [u8; PLACES], p: u8) -> bool
+    requires { ⌜ (p < places) × Indexed (now b) (now who) places × Stamped (now b) (now who) (now stamps) p ⌝ }
+    ensures { λ r. ⌜ Tells r (Stamped (now (b .entry)) (now (who .entry)) (now (stamps .exit)) (p + 1)) (Ring (now (b .entry)) (now (who .entry))) ⌝ }
+{
+    let own = p + 1;
+    let mut r = p;
+    while r < LIMIT {
+        let at = r as usize;
+        let stamp = stamps[at];
+        if stamp != 0 {
+            return stamp != own;
+        }
+        stamps[at] = own;
+        r = who[wide(b[table::PARENT + at])];
+    }
+    true
+}
+
+// Does one come from every place to nobody? If not, parents form a ring.
+fn ringless(b: &Blocks, who: &[u8; ENTRIES]) -> bool
+    requires { ⌜ Indexed (now b) (now who) places ⌝ }
+    ensures { λ r. ⌜ Tells r ((p : ℕ) → p < places → Rises (now (b .entry)) (now (who .entry)) p) (Ring (now (b .entry)) (now (who .entry))) ⌝ }
+{
+    let mut stamps: [u8; PLACES] = [0; PLACES];
+    let mut p: u8 = 0;
+    while p < LIMIT {
+        if !ends(b, who, &mut stamps, p) {
             return false;
         }
         p += 1;
@@ -315,7 +364,7 @@ fn words(s: &[u32]) -> usize
     n
 }
 
-// Do all places pass, each with all that it has to do with others?
+// Do all places pass, each with all that it has to do with others, and do parents form no ring?
 fn members(strict: bool, b: &Blocks, w: &Words, at: &[u8; PLACES], running: Place) -> bool
     ensures { λ r. ⌜ Tells r (Members strict (running .0) (now (b .entry)) (now (w .entry)) (now (at .entry))) (Strangers strict (running .0) (now (b .entry)) (now (w .entry)) (now (at .entry))) ⌝ }
 {
@@ -323,7 +372,10 @@ fn members(strict: bool, b: &Blocks, w: &Words, at: &[u8; PLACES], running: Plac
     if !index(b, &mut who) {
         return false;
     }
-    every(strict, b, w, at, &who, running)
+    if !every(strict, b, w, at, &who, running) {
+        return false;
+    }
+    ringless(b, &who)
 }
 
 // Do the desk and the arrays stand for a consistent nucleus? Any may come. Where strict is false, what counts is the old rules' idea of consistent.

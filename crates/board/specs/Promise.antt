@@ -109,7 +109,7 @@ carriedOn m out =
     cond (ltb (length out) (length (encode m))) (uncarried 7 (choice m), out)
     (record { code = 0; choice = choiceKind (choice m); next = choiceRuns (choice m); length = length (encode m) }, placed m out)
 
--- Order: load's refusals, but for the clause that the old rules do not know (the choice is halt, since no state was loaded), 7.
+-- Order: load's refusals, but for P2's clause, which the old rules do not know (the choice is halt, since no state was loaded), 7.
 pub data Carries (image out : List ℕ) (t : Carried × List ℕ) : Type 0 where
   untaken : (c : ℕ) → OldRefuses image c → t ≡ (uncarried c Halt, out) → Carries image out t
   took-over : (m : Model) → OldImage m image → t ≡ carriedOn (updated m) out → Carries image out t

@@ -1,11 +1,12 @@
-// Runs the cases of "Loads that were counted" and those of document 02's P1 to P3, and every operation on states that are not consistent, and prints what
-// each answers.
+// Runs the cases of "Loads that were counted" and those of document 02's P1 to P3 and P5, and every operation on states that are not consistent, and prints
+// what each answers.
 use nucleus::Reply;
 use nucleus::State;
 use rules::Number;
 use rules::Place;
 
 mod devices;
+mod families;
 mod images;
 mod listeners;
 mod mangled;
@@ -28,6 +29,7 @@ fn main() {
     devices::all();
     listeners::all();
     updates::all();
+    families::all();
     mangled::all();
 }
 
@@ -64,7 +66,7 @@ fn fresh() {
     kept(s);
 }
 
-// The image, as it would be kept. It is of edition 2.
+// The image, as it would be kept. It is of edition 3.
 fn kept(s: State) {
     let mut buffer = [0u8; image::LONGEST];
     let r = image::save(s, &mut buffer);

@@ -41,8 +41,8 @@ pub fn all() {
     desks(s);
 }
 
-// Six threads, each at the place of its number: 0 sends 7 to 1, 1 waits for the clock, 2 runs, 3 is ready, 4 waits at the keypad, and 5 receives from 1. (Two
-// slice ends bring 4 and 5 to run before that, and 2 and 3 behind them.)
+// Six threads, each at the place of its number, 0 the parent of the others: 0 sends 7 to 1, 1 waits for the clock, 2 runs, 3 is ready, 4 waits at the keypad,
+// and 5 receives from 1. (Two slice ends bring 4 and 5 to run before that, and 2 and 3 behind them.)
 fn cab() -> State {
     let log = [1u8, 1, 1, 1, 1, 1, 2, 1, 7, 0, 0, 0, 6, 7, 7, 9, KEYPAD];
     let s = after(&log);
@@ -66,6 +66,18 @@ fn threads(s: State) {
         byte(s, table::CODE + 2, 16),
     );
     tried(b"a word in a ready thread", word(s, table::WORD + 3, 1));
+    tried(
+        b"a parent that does not live",
+        byte(s, table::PARENT + 3, 9),
+    );
+    tried(
+        b"a thread that is its own parent",
+        byte(s, table::PARENT + 3, 3),
+    );
+    tried(
+        b"two that are each other's parents",
+        byte(s, table::PARENT, 3),
+    );
 }
 
 fn queues(s: State) {
@@ -177,6 +189,7 @@ fn fields(t: Thread) {
     field(a.code as u64);
     field(a.who.0 as u64);
     field(a.word as u64);
+    field(t.parent.0 as u64);
 }
 
 fn field(x: u64) {

@@ -15,7 +15,7 @@ pub fn all() {
     inconsistent();
 }
 
-// 0 is alone and receives from 5, who is dead: load refuses that in either edition, and the update wakes 0.
+// 0 is alone and receives from 5, who is dead: load refuses that in any edition, and the update wakes 0.
 fn editions() {
     let first = b"\x01\0\xff\x01\0\0\x19\0\0\0\x0c\0\x05\x05\0\0\0\0\0\xff\0\0\0\0\0";
     let s = updated(b"0 receives from a dead 5, in edition 1", first);
@@ -62,8 +62,8 @@ fn unchanged() {
 fn heads() {
     let under = b"\x01\xfd\xff\0\0\0\x08";
     updated(b"under 8 bytes", under);
-    let unknown = b"\x03\xfd\xff\0\0\0\x08\0";
-    updated(b"edition 3", unknown);
+    let unknown = b"\x04\xfd\xff\0\0\0\x08\0";
+    updated(b"edition 4", unknown);
     let short = b"\x02\xfd\xff\0\0\0\x08\0";
     updated(b"edition 2, shorter than its head", short);
     let wrong = b"\x01\0\xff\x01\0\0\x1a\0\0\0\x0c\0\x05\x05\0\0\0\0\0\xff\0\0\0\0\0";

@@ -22,8 +22,8 @@ pub record Spotted (s : List ℕ) (n offset len : ℕ) : Type 0 where
   pub behind : List Place
   pub split : livePlaces m ≡ before ++ (place ∷ behind)
   pub number : thread m place .number ≡ n
-  pub starts : offset ≡ firstBody row m + length (bodies m before)
-  pub long : len ≡ length (bodyOf m place)
+  pub starts : offset ≡ firstBody row m + length (bodies row m before)
+  pub long : len ≡ length (bodyOf row m place)
 
 -- the bytes are the image of m, in which the number n does not live
 pub record Absent (s : List ℕ) (n : ℕ) : Type 0 where

@@ -14,7 +14,7 @@ use Rattle.order.specs.Sound.{sound, small}
 use Rattle.order.specs.Places.{lives-at}
 use Rattle.nucleus.specs.View.{view}
 use Rattle.saving.specs.Format.{inboxLengthAt, bodyLength, livePlaces, bodyOf, bodies}
-use Rattle.saving.specs.Longest.{live-distinct}
+use Rattle.saving.specs.Longest.{live-distinct, body-length}
 use Rattle.saving.specs.declared.format.Row.{Row}
 use Rattle.loading.specs.Positions.{offset, live-in}
 use Rattle.loading.specs.Finds.{live-is, row-is, body, body-in, inbox-length}
@@ -27,8 +27,9 @@ use Rattle.loading.specs.declared.Loaded.{Loaded}
 
 -- ---- the three ends
 
-body-size : {row : Row} {m : Model} {s : List ℕ} {i : ℕ} → ImageAs row m s → i < live m → bodyLength + getD s (bodyAt row s i + inboxLengthAt) 0 ≡ length (bodyOf m (getD (livePlaces m) i 0))
-body-size {m = m} {s = s} {i = i} I h =
+body-size : {row : Row} {m : Model} {s : List ℕ} {i : ℕ} → ImageAs row m s → i < live m → bodyLength row + getD s (bodyAt row s i + inboxLengthAt) 0 ≡ length (bodyOf row m (getD (livePlaces m) i 0))
+body-size {row} {m} {s} {i} I h =
+    let b = body-length row m (getD (livePlaces m) i 0) in
     let z = ap (λ (x : ℕ). getD s (x + inboxLengthAt) 0) (o-is I h) ∙ inbox-length I (take i (livePlaces m)) (getD (livePlaces m) i 0) (drop (suc i) (livePlaces m)) (split I h) in
     omega arith
 
@@ -60,7 +61,7 @@ module _ {s : List ℕ} {n : ℕ} {r : Loaded} (L : Loads s r) where
         } in
         missing a refl refl refl
 
-    pub locates-spotted : i < getD s 3 0 → {c a l : ℕ} → c ≡ 0 → a ≡ bodyAt row s i → l ≡ bodyLength + getD s (a + inboxLengthAt) 0 → Locates s n c a l
+    pub locates-spotted : i < getD s 3 0 → {c a l : ℕ} → c ≡ 0 → a ≡ bodyAt row s i → l ≡ bodyLength row + getD s (a + inboxLengthAt) 0 → Locates s n c a l
     locates-spotted h {c} {a} {l} ec ea el =
         let g : i < live m = let v = live-is I in omega arith in
         let f : Spotted s n a l = record {
@@ -73,7 +74,7 @@ module _ {s : List ℕ} {n : ℕ} {r : Loaded} (L : Loads s r) where
           split = split I g;
           number = sym (n-is I g) ∙ k .here h;
           starts = ea ∙ o-is I g;
-          long = el ∙ ap (λ (x : ℕ). bodyLength + getD s (x + inboxLengthAt) 0) ea ∙ body-size I g;
+          long = el ∙ ap (λ (x : ℕ). bodyLength row + getD s (x + inboxLengthAt) 0) ea ∙ body-size I g;
         } in
         spotted f ec
 
@@ -86,11 +87,11 @@ module _ {s : List ℕ} {n o l : ℕ} (F : Spotted s n o l) where
   pub spotted-lives : livesAt (F .m) (F .place) ≡ true
   spotted-lives = sym (live-in (F .m) (F .place) (live-low (F .m) (F .place) spotted-among)) ∙ spotted-among
 
-  pub locate-body : take l (drop o s) ≡ bodyOf (F .m) (F .place)
+  pub locate-body : take l (drop o s) ≡ bodyOf (F .row) (F .m) (F .place)
   locate-body =
       ap (λ (x : ℕ). take l (drop x s)) (F .starts)
       ∙ ap (take l) (body (F .image) (F .before) (F .place) (F .behind) (F .split))
-      ∙ take-at (bodyOf (F .m) (F .place)) (bodies (F .m) (F .behind)) l (sym (F .long))
+      ∙ take-at (bodyOf (F .row) (F .m) (F .place)) (bodies (F .row) (F .m) (F .behind)) l (sym (F .long))
 
   spotted-within : o + l ≤ length s
   spotted-within =
@@ -140,7 +141,7 @@ module _ {s : List ℕ} {n o l p k : ℕ} (F : Spotted s n o l) (G : Spotted s n
   spotted-offset = F .starts ∙ ap (λ (x : Row). offset x (F .m) (F .before)) row-same ∙ ap₂ (offset (G .row)) model-same before-same ∙ sym (G .starts)
 
   spotted-length : l ≡ k
-  spotted-length = F .long ∙ ap length (ap₂ bodyOf model-same place-same) ∙ sym (G .long)
+  spotted-length = F .long ∙ ap (λ (x : Row). length (bodyOf x (F .m) (F .place))) row-same ∙ ap length (ap₂ (bodyOf (G .row)) model-same place-same) ∙ sym (G .long)
 
 spotted-not : {X : Type 0} {s : List ℕ} {n o l : ℕ} → Spotted s n o l → Absent s n → X
 spotted-not F A =

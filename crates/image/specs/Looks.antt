@@ -8,7 +8,8 @@ use lib.ListN.{length, take, drop, length-take, length-drop}
 use Rattle.rules.specs.Model.{Empty, thread}
 use Rattle.order.specs.Places.{lives-at}
 use Rattle.saving.specs.Format.{bodyOf}
-use Rattle.loading.specs.Finds.{place-is, offset-is}
+use Rattle.saving.specs.declared.format.Row.{Row}
+use Rattle.loading.specs.Finds.{row-is, place-is, offset-is}
 use Rattle.loading.specs.Entry.{bodyAt}
 use Rattle.loading.specs.Injective.{image-one}
 use Rattle.loading.specs.Accepts.{refuses-not}
@@ -55,7 +56,8 @@ module _ {s : List ℕ} {n : ℕ} {a b : List ℕ} where
       let l : thread (G .m) (F .place) .standing ≢ Empty = rw e at (lives-at (F .m) (F .place) (F .lives)) in
       let v : thread (G .m) (F .place) .number ≡ n = rw e at (F .number) in
       let p : F .place ≡ G .place = G .image .consistent .old .differ (F .place) (G .place) l (lives-at (G .m) (G .place) (G .lives)) (v ∙ sym (G .number)) in
-      F .body ∙ ap₂ bodyOf e p ∙ sym (G .body)
+      let r : F .row ≡ G .row = row-is (F .image) ∙ sym (row-is (G .image)) in
+      F .body ∙ ap (λ (x : Row). bodyOf x (F .m) (F .place)) r ∙ ap₂ (bodyOf (G .row)) e p ∙ sym (G .body)
 
 found-not : {X : Type 0} {s : List ℕ} {n : ℕ} {a : List ℕ} → Found s n a → Absent s n → X
 found-not F A =

@@ -20,7 +20,7 @@ pub record Found (s : List ℕ) (n : ℕ) (part : List ℕ) : Type 0 where
   pub place : ℕ
   pub lives : livesAt m place ≡ true
   pub number : thread m place .number ≡ n
-  pub body : part ≡ bodyOf m place
+  pub body : part ≡ bodyOf row m place
   pub entry : ℕ
   pub named : getD s (entryAt row entry) 0 ≡ place
   pub within : bodyAt row s entry + length part ≤ length s

@@ -32,7 +32,7 @@ fn find(row: Row, image: &[u8], n: Number) -> usize
 // The body that entry i names, with its inbox.
 fn body(row: Row, image: &[u8], i: usize) -> Part
     requires { ⌜ i < 256 ⌝ }
-    ensures { λ r. ⌜ (r .code ≡ 0) × (r .offset ≡ bodyAt row (now (image .entry)) i) × (r .length ≡ bodyLength + getD (now (image .entry)) (r .offset + inboxLengthAt) 0) ⌝ }
+    ensures { λ r. ⌜ (r .code ≡ 0) × (r .offset ≡ bodyAt row (now (image .entry)) i) × (r .length ≡ bodyLength row + getD (now (image .entry)) (r .offset + inboxLengthAt) 0) ⌝ }
 {
     let entry = format::head_length(row) + format::ENTRY * i;
     let from = bytes::two(image, entry + format::OFFSET_AT);
@@ -40,7 +40,7 @@ fn body(row: Row, image: &[u8], i: usize) -> Part
     Part {
         code: codes::DONE,
         offset: from,
-        length: format::BODY + inbox,
+        length: format::body_length(row) + inbox,
     }
 }
 

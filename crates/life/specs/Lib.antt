@@ -8,3 +8,4 @@ pub mod HandBack
 pub mod LetGo
 pub mod Leave
 pub mod End
+pub mod Family

@@ -6,6 +6,8 @@ ghost use Rattle.rules.specs.declared.Event.the-variants.{Create};
 ghost use Rattle.table.specs.Cells.{Stands};
 ghost use Rattle.events.specs.Events.{Did};
 ghost use Rattle.bits.specs.Set.{Adds};
+ghost use Rattle.verbs.specs.Address.{Seated};
+ghost use Rattle.life.specs.Create.{numberAt};
 ghost use Rattle.life.specs.Number.{barsAt, bars, freeAfter};
 use bits::Set;
 use events::Outcome;
@@ -51,7 +53,19 @@ fn next_number(b: &Blocks, last: Number) -> Number
     bits::next_clear(&s, last)
 }
 
-// 1. The lowest empty place takes a thread with the next number that is not barred, which joins the back of ready.
+// The number that runs, which becomes the newcomer's parent. Nobody's where nobody runs.
+fn creator(b: &Blocks, d: Desk) -> Number
+    requires { ⌜ Seated d ⌝ }
+    ensures { λ r. ⌜ r .0 ≡ numberAt (now (b .entry)) (d .running .0) ⌝ }
+{
+    let p = d.running;
+    if p.0 == lines::NONE {
+        return Number(rules::NOBODY);
+    }
+    table::number_of(b, p)
+}
+
+// 1. The lowest empty place takes a thread with the next number that is not barred and whoever runs as its parent, which joins the back of ready.
 pub fn create(b: &mut Blocks, w: &mut Words, l: &mut Links, d: Desk) -> Outcome
     requires { ⌜ Stands d (now b) (now w) (now l) ⌝ }
     ensures { λ r. ⌜ Did d (now (b .entry)) (now (w .entry)) (now (l .entry)) Create r (now (b .exit)) (now (w .exit)) (now (l .exit)) ⌝ }
@@ -62,7 +76,8 @@ pub fn create(b: &mut Blocks, w: &mut Words, l: &mut Links, d: Desk) -> Outcome
     let p = filled::lowest(d.filled);
     let last = d.last;
     let n = next_number(b, last);
-    verbs::seat(b, w, l, Place(p), n);
+    let parent = creator(b, d);
+    verbs::seat(b, w, l, Place(p), n, parent);
     let x = filled::with(d.filled, p);
     let running = d.running;
     let e = Desk {

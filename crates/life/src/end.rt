@@ -1,12 +1,15 @@
 // Event 5: end.
 ghost use mathlib.Core.Path.{_≡_};
-ghost use Prim.Native.Nat.{_<_, _≤_};
+ghost use mathlib.Core.Bool.{true};
+ghost use Prim.Native.Nat.{suc, _<_, _≤_};
 ghost use Rattle.lines.specs.Lines.{lineOf, Loose, Tidy};
-ghost use Rattle.rules.specs.Model.{places, lineCount, lastNumber};
-ghost use Rattle.rules.specs.Rules.{awaiting, listening, end};
+ghost use Rattle.rules.specs.Model.{places, lineCount, lastNumber, livesAt};
+ghost use Rattle.rules.specs.Rules.{awaiting, listening, endAt, endOne, endDown};
 ghost use Rattle.rules.specs.declared.Event.the-variants.{End};
+ghost use Rattle.order.specs.Sound.{Sound};
 ghost use Rattle.order.specs.HandBack.{let-step};
-ghost use Rattle.table.specs.Cells.{Whole, Stands};
+ghost use Rattle.order.specs.Recursion.{MayEnd};
+ghost use Rattle.table.specs.Cells.{shown, Whole, Stands};
 ghost use Rattle.verbs.specs.Steps.{Steps, Turns};
 ghost use Rattle.events.specs.Events.{Did};
 ghost use Rattle.life.specs.Drain.{First, drains};
@@ -14,6 +17,7 @@ ghost use Rattle.life.specs.HandBack.{backs};
 ghost use Rattle.life.specs.LetGo.{SoundOn, letFrom};
 ghost use Rattle.life.specs.Leave.{lineIn, Served, Leaves};
 ghost use Rattle.life.specs.End.{EndsAt};
+ghost use Rattle.life.specs.Family.{Tallied, Empties, ifChild};
 use events::Outcome;
 use events::answer;
 use lines::Links;
@@ -151,7 +155,7 @@ fn out_of_line(b: &Blocks, l: &mut Links, d: Desk, p: Place) -> Desk
 // The thread at p, of the number n, ends. It leaves its line last: until then every thread that names it as a partner finds it.
 fn end_at(b: &mut Blocks, w: &mut Words, l: &mut Links, d: Desk, n: Number, p: Place) -> Desk
     requires { ⌜ EndsAt d (now b) (now w) (now l) (n .0) (p .0) ⌝ }
-    ensures { λ r. ⌜ Turns d (now (b .entry)) (now (w .entry)) (now (l .entry)) r (now (b .exit)) (now (w .exit)) (now (l .exit)) (end (n .0)) ⌝ }
+    ensures { λ r. ⌜ Turns d (now (b .entry)) (now (w .entry)) (now (l .entry)) r (now (b .exit)) (now (w .exit)) (now (l .exit)) (endAt (p .0) (n .0)) ⌝ }
 {
     hand_all_back(b, w, l, n, table::INBOX_LINES + p.0);
     let_go(b, w, l, n);
@@ -161,7 +165,61 @@ fn end_at(b: &mut Blocks, w: &mut Words, l: &mut Links, d: Desk, n: Number, p: P
     e
 }
 
-// 5. The thread with the number n ends: those who wait for it are let go, each group in its turn, and its place is empty.
+// The thread at p ends, and no other with it: those who wait for it are let go, each group in its turn, and its place is empty.
+fn end_one(b: &mut Blocks, w: &mut Words, l: &mut Links, d: Desk, p: Place) -> Desk
+    requires { ⌜ Tallied d (now b) (now w) (now l) × Sound (shown d (now b) (now w) (now l)) × (livesAt (shown d (now b) (now w) (now l)) (p .0) ≡ true) ⌝ }
+    ensures { λ r. ⌜ Empties d (now (b .entry)) (now (w .entry)) (now (l .entry)) r (now (b .exit)) (now (w .exit)) (now (l .exit)) (endOne (p .0)) ⌝ }
+{
+    let n = table::number_of(b, p);
+    let e = end_at(b, w, l, d, n, p);
+    let x = filled::less(e.filled, p.0);
+    let last = e.last;
+    let running = e.running;
+    Desk {
+        filled: x,
+        last: last,
+        running: running,
+    }
+}
+
+// If the thread at r is a child of the thread at p, it ends with its family, with depth left below it. An empty place has nobody for a parent: so one row
+// tells who is a child.
+fn end_child(
+    b: &mut Blocks,
+    w: &mut Words,
+    l: &mut Links,
+    d: Desk,
+    depth: u8,
+    p: Place,
+    r: Place,
+) -> Desk
+    requires { ⌜ Tallied d (now b) (now w) (now l) × MayEnd (suc depth) (p .0) (shown d (now b) (now w) (now l)) × (r .0 < places) ⌝ }
+    ensures { λ r′. ⌜ Empties d (now (b .entry)) (now (w .entry)) (now (l .entry)) r′ (now (b .exit)) (now (w .exit)) (now (l .exit)) (ifChild depth (p .0) (r .0)) ⌝ }
+{
+    let parent = table::parent_of(b, r);
+    let n = table::number_of(b, p);
+    if parent.0 != n.0 {
+        return d;
+    }
+    end_down(b, w, l, d, depth, r)
+}
+
+// The thread at p ends with its family: first its children by rising place, each with its own family, and itself last. It calls itself, by way of
+// `end_child`, no deeper than the depth left.
+fn end_down(b: &mut Blocks, w: &mut Words, l: &mut Links, d: Desk, depth: u8, p: Place) -> Desk
+    requires { ⌜ Tallied d (now b) (now w) (now l) × MayEnd depth (p .0) (shown d (now b) (now w) (now l)) ⌝ }
+    ensures { λ r. ⌜ Empties d (now (b .entry)) (now (w .entry)) (now (l .entry)) r (now (b .exit)) (now (w .exit)) (now (l .exit)) (endDown depth (p .0)) ⌝ }
+{
+    let mut e = d;
+    let mut r: u8 = 0;
+    while r < lines::PLACES as u8 {
+        e = end_child(b, w, l, e, depth - 1, p, Place(r));
+        r += 1;
+    }
+    end_one(b, w, l, e, p)
+}
+
+// 5. The thread with the number n ends, and all that it started.
 pub fn end(b: &mut Blocks, w: &mut Words, l: &mut Links, d: Desk, n: Number) -> Outcome
     requires { ⌜ Stands d (now b) (now w) (now l) ⌝ }
     ensures { λ r. ⌜ Did d (now (b .entry)) (now (w .entry)) (now (l .entry)) (End n) r (now (b .exit)) (now (w .exit)) (now (l .exit)) ⌝ }
@@ -173,14 +231,7 @@ pub fn end(b: &mut Blocks, w: &mut Words, l: &mut Links, d: Desk, n: Number) -> 
     if p.0 == lines::NONE {
         return answer(codes::NOT_LIVE, d);
     }
-    let e = end_at(b, w, l, d, n, p);
-    let x = filled::less(e.filled, p.0);
-    let last = e.last;
-    let running = e.running;
-    let f = Desk {
-        filled: x,
-        last: last,
-        running: running,
-    };
-    answer(codes::DONE, f)
+    let depth = filled::count(d.filled);
+    let e = end_down(b, w, l, d, depth, p);
+    answer(codes::DONE, e)
 }

@@ -72,17 +72,6 @@ wrote-then {s} {t} {u} {xs} {ys} {at} {r} {v} p q h = record {
 pub wrote-both : {s t u a b xs ys : List ℕ} {at r v : ℕ} → Wrote s at a t r → Wrote t r b u v → a ≡ xs → b ≡ ys → at + (length xs + length ys) ≤ length s → Wrote s at (xs ++ ys) u v
 wrote-both p q e f h = let i = ap length e in let j = ap length f in rw (← e, ← f) (wrote-then p q (omega arith))
 
--- one is written last, before the others: it says how many there are
-pub wrote-counted : {s t xs : List ℕ} {at r : ℕ} → Wrote s (at + 1) xs t r → at + 1 + length xs ≤ length s → Wrote s at (length xs ∷ xs) (set t at (r - (at + 1))) r
-wrote-counted {s} {t} {xs} {at} {r} p h =
-    let n = p .next in
-    let e : r - (at + 1) ≡ length xs = omega arith in
-    let k : length t ≡ length s = ap length (p .bytes) ∙ laid-length s (at + 1) xs h in
-    record {
-      next = omega arith;
-      bytes = rw e (laid-one t at (length xs) (omega arith) ∙ rw (p .bytes) (laid-before s at (length xs ∷ []) xs (omega arith)));
-    }
-
 -- the front is written last
 pub wrote-front : {s t u hs xs : List ℕ} {at e v : ℕ} → Wrote s at xs t e → Wrote t 0 hs u v → length hs ≡ at → at + length xs ≤ length s → u ≡ (hs ++ xs) ++ drop e s
 wrote-front {s} {t} {u} {hs} {xs} {at} {e} p q i h =

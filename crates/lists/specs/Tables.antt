@@ -1,5 +1,6 @@
 -- Tables, a value for each number below n, and tallies, of how many of them a test holds. Assumes nothing.
 use mathlib.Core.Path.{_≡_, refl, sym, ap, ap₂, _∙_}
+use mathlib.Core.Logic.{_≢_}
 use mathlib.Core.List.{List, _∷_}
 use mathlib.Core.Bool.{Bool, true, false}
 use Prim.Native.Nat.{ℕ, zero, suc, _+_, _≤_, _<_}
@@ -80,6 +81,25 @@ pub tally-ext : (n : ℕ) (f g : ℕ → Bool) → ((i : ℕ) → i < n → f i 
 unfolding tally
 tally-ext zero f g e = refl
 tally-ext (suc n) f g e = ap₂ (λ (a b : ℕ). a + b) (ap bit (e 0 (omega arith))) (tally-ext n (λ k. f (suc k)) (λ k. g (suc k)) (λ i h. e (suc i) (omega arith)))
+
+-- one of them changes its answer
+pub tally-set : (n : ℕ) (f g : ℕ → Bool) (p : ℕ) → p < n → ((r : ℕ) → r < n → r ≢ p → g r ≡ f r) → tally n g + bit (f p) ≡ tally n f + bit (g p)
+unfolding tally
+tally-set zero f g p h o = absurd (omega arith)
+tally-set (suc n) f g zero h o =
+    let e : tally n (λ k. g (suc k)) ≡ tally n (λ k. f (suc k)) = tally-ext n (λ k. g (suc k)) (λ k. f (suc k)) (λ i b. o (suc i) (omega arith) (omega arith)) in
+    omega arith
+tally-set (suc n) f g (suc p) h o =
+    let i = tally-set n (λ k. f (suc k)) (λ k. g (suc k)) p (omega arith) (λ r b m. o (suc r) (omega arith) (omega arith)) in
+    let e : bit (g zero) ≡ bit (f zero) = ap bit (o zero (omega arith) (omega arith)) in
+    omega arith
+
+-- where none is counted, none is one
+pub tally-none : (n : ℕ) (f : ℕ → Bool) → tally n f ≡ 0 → (p : ℕ) → p < n → f p ≡ false
+unfolding tally
+tally-none zero f e p h = absurd (omega arith)
+tally-none (suc n) f e zero h = by-test (f zero) (λ t. let b = ap bit t in absurd (omega arith)) (λ t. t)
+tally-none (suc n) f e (suc p) h = tally-none n (λ k. f (suc k)) (omega arith) p (omega arith)
 
 -- all of them
 pub tally-full : (n : ℕ) (f : ℕ → Bool) → ((p : ℕ) → p < n → f p ≡ true) → tally n f ≡ n

@@ -94,7 +94,7 @@ none-waits {strict} {row} {m} I h p z =
     let q = device (thread m p .partner) in
     let a : belongs m (thread m p) q ≡ true = at-device m (thread m p) (thread m p .partner) i ∙ rw (z, eq-eqb q q refl) in
     let b : count p (line m q) ≡ 1 = S .stood p q ∙ ap bit a in
-    let c : _≡_ {A = ℕ} 0 1 = rw (I .holds q (omega arith) (omega arith)) at b in
+    let c : _≡_ {A = ℕ} 0 1 = rw (I .holds .queues q (omega arith) (omega arith)) at b in
     omega arith
 
 -- ---- one answer

@@ -1,5 +1,5 @@
--- The images of "Loads that were counted" (document 01), and one of document 02's P1: one table, and both ways: loading these bytes gives the state, and saving
--- the state gives the bytes of the newest edition.
+-- The images of "Loads that were counted" (document 01), and those of document 02's P1 and P5: one table, and both ways: loading these bytes gives the state,
+-- and saving the state gives the bytes of the newest edition.
 use Prim.Native.Nat.{ℕ, zero, suc, _+_, _-_, _≤_, _<_}
 use mathlib.Core.Path.{_≡_, refl, sym, ap, subst, _∙_}
 use mathlib.Core.List.{List, [], _∷_, _++_}
@@ -7,22 +7,26 @@ use native.Mathlib.Omega.{arith}
 use lib.ListN.{length, getD, take, drop, replicate}
 use lib.Seq.{getD-take, getD-drop}
 use mathlib.Core.Bool.{Bool, true, _&&_}
+use lib.Dec.{eqb}
+use borrow.Author.Tests.{eqb-true}
 use Rattle.lists.specs.Lists.{tally}
 use Rattle.lists.specs.Every.{Every}
 use Rattle.lists.specs.Sizes.{devices, queueCount}
-use Rattle.lists.specs.Laws.{never, and-right}
-use Rattle.rules.specs.Model.{Model, line, allPlaces}
+use Rattle.lists.specs.Laws.{never, and-left, and-right}
+use Rattle.rules.specs.Values.{nobody}
+use Rattle.rules.specs.Model.{Thread, vacant, Model, line, allPlaces}
 use Rattle.rules.specs.Rules.{isNil, firstFree, fresh, after}
 use Rattle.rules.specs.declared.Event.{Event}
-use Rattle.rules.specs.declared.Event.the-variants.{Create, WaitDevice}
+use Rattle.rules.specs.declared.Event.the-variants.{Create, WaitClock, SliceEnd, Tick, WaitDevice}
 use Rattle.order.specs.Keeps.{fresh-consistent, always}
 use Rattle.rules.specs.Consistent.{Consistent}
 use Rattle.nucleus.specs.View.{view, Shows}
 use Rattle.nucleus.specs.declared.State.{State}
-use Rattle.saving.specs.Format.{queuesOf, rowOf, Known, Holds, queuesIn, encodeAs, encode}
-use Rattle.saving.specs.Editions.{newest-known, newest-holds}
+use Rattle.saving.specs.Format.{queuesOf, parentsOf, rowOf, Known, Holds, queuesIn, encodeAs, encode}
+use Rattle.saving.specs.Editions.{known-of, newest-known, newest-holds}
 use Rattle.loading.specs.Loads.{ImageAs, Loads}
 use Rattle.saving.specs.Save.{Saves}
+use Rattle.saving.specs.declared.format.Row.{Row}
 use Rattle.loading.specs.Accepts.{accepts, loads-back}
 use Rattle.loading.specs.RoundTrip.{saves-well, front-image}
 use Rattle.loading.specs.declared.Loaded.{Loaded}
@@ -34,8 +38,13 @@ pub record CountedImage : Type 0 where
   pub image : List ℕ
   pub saved : List ℕ
 
+-- 1 is created while 0 runs ..
 abbrev pair : List Event
 pair = Create ∷ Create ∷ []
+
+-- .. and while nobody does: no parents, which is all that editions 1 and 2 can hold
+abbrev strangers : List Event
+strangers = Create ∷ WaitClock ∷ Create ∷ Tick ∷ SliceEnd ∷ []
 
 abbrev waits : List Event
 waits = Create ∷ WaitDevice (record { 0 = 33 }) ∷ []
@@ -48,13 +57,27 @@ nobodyWaits = replicate devices 0
 abbrev body : ℕ → ℕ → List ℕ
 body st pa = st ∷ pa ∷ 0 ∷ 0 ∷ 0 ∷ 0 ∷ 0 ∷ 255 ∷ 0 ∷ 0 ∷ 0 ∷ 0 ∷ 0 ∷ []
 
--- 0 waits at device 33: 74 bytes
-abbrev waiting : List ℕ
-waiting =
-    2 ∷ 0 ∷ 255 ∷ 1 ∷ 0 ∷ 0 ∷ replicate 33 0 ++ (1 ∷ replicate 14 0) ++ (74 ∷ 0 ∷ [])
+-- 0 waits at device 33, in the edition e: its body's bytes are b, and n the total
+abbrev waiting : ℕ → ℕ → List ℕ → List ℕ
+waiting e n b =
+    e ∷ 0 ∷ 255 ∷ 1 ∷ 0 ∷ 0 ∷ replicate 33 0 ++ (1 ∷ replicate 14 0) ++ (n ∷ 0 ∷ [])
     ++ (0 ∷ 0 ∷ 61 ∷ 0 ∷ [])
     ++ (0 ∷ [])
-    ++ body 7 33
+    ++ b
+
+-- 0 runs and 1 is ready, in the edition e: their bodies' bytes are a and b, the second starts at o, and n is the total
+abbrev two : ℕ → ℕ → ℕ → List ℕ → List ℕ → List ℕ
+two e n o a b =
+    e ∷ 1 ∷ 0 ∷ 2 ∷ 1 ∷ 0 ∷ nobodyWaits ++ (n ∷ 0 ∷ [])
+    ++ (0 ∷ 0 ∷ 65 ∷ 0 ∷ [])
+    ++ (1 ∷ 1 ∷ o ∷ 0 ∷ [])
+    ++ (1 ∷ [])
+    ++ a
+    ++ b
+
+-- in edition 3, with these parents (93 bytes)
+abbrev pub related : ℕ → ℕ → List ℕ
+related f g = two 3 93 79 (body 1 255 ++ (f ∷ [])) (body 2 255 ++ (g ∷ []))
 
 unfoldable pub images : List CountedImage
 images =
@@ -63,11 +86,11 @@ images =
       events = [];
       edition = 1;
       image = 1 ∷ 253 ∷ 255 ∷ 0 ∷ 0 ∷ 0 ∷ 8 ∷ 0 ∷ [];
-      saved = 2 ∷ 253 ∷ 255 ∷ 0 ∷ 0 ∷ 0 ∷ nobodyWaits ++ (56 ∷ 0 ∷ []);
+      saved = 3 ∷ 253 ∷ 255 ∷ 0 ∷ 0 ∷ 0 ∷ nobodyWaits ++ (56 ∷ 0 ∷ []);
     }
-    -- Create twice (43 bytes; 91 in edition 2).
+    -- Document 01's two threads (43 bytes; 91 in edition 2). In these editions neither has a parent.
     ∷ record {
-      events = pair;
+      events = strangers;
       edition = 1;
       image =
           1 ∷ 1 ∷ 0 ∷ 2 ∷ 1 ∷ 0 ∷ 43 ∷ 0
@@ -76,20 +99,20 @@ images =
           ∷ 1
           ∷ 1 ∷ 255 ∷ 0 ∷ 0 ∷ 0 ∷ 0 ∷ 0 ∷ 255 ∷ 0 ∷ 0 ∷ 0 ∷ 0 ∷ 0
           ∷ 2 ∷ 255 ∷ 0 ∷ 0 ∷ 0 ∷ 0 ∷ 0 ∷ 255 ∷ 0 ∷ 0 ∷ 0 ∷ 0 ∷ 0 ∷ [];
-      saved =
-          2 ∷ 1 ∷ 0 ∷ 2 ∷ 1 ∷ 0 ∷ nobodyWaits ++ (91 ∷ 0 ∷ [])
-          ++ (0 ∷ 0 ∷ 65 ∷ 0 ∷ [])
-          ++ (1 ∷ 1 ∷ 78 ∷ 0 ∷ [])
-          ++ (1 ∷ [])
-          ++ body 1 255
-          ++ body 2 255;
+      saved = related 255 255;
     }
-    -- P1: 0 alone waits at device 33. Edition 1 cannot hold it.
-    ∷ record { events = waits; edition = 2; image = waiting; saved = waiting }
+    ∷ record { events = strangers; edition = 2; image = two 2 91 78 (body 1 255) (body 2 255); saved = related 255 255 }
+    -- P1: 0 alone waits at device 33 (74 bytes). Edition 1 cannot hold it.
+    ∷ record { events = waits; edition = 2; image = waiting 2 74 (body 7 33); saved = waiting 3 75 (body 7 33 ++ (255 ∷ [])) }
+    -- P5: create twice, and 0 is the parent of 1. No edition before 3 can hold it.
+    ∷ record { events = pair; edition = 3; image = related 255 0; saved = related 255 0 }
     ∷ []
 
 abbrev pub state : CountedImage → Model
 state c = after (c .events) fresh
+
+strangers-consistent : Consistent (after strangers fresh)
+strangers-consistent = always strangers fresh fresh-consistent (omega arith, (omega arith, (omega arith, (omega arith, (omega arith, tt)))))
 
 -- loaded, the bytes give the state; saved with room, the state gives the other bytes; both with code 0
 pub record Undone (m : Model) (image saved : List ℕ) : Type 0 where
@@ -105,10 +128,24 @@ undone m e image saved k h C i j = record {
       (w .0, sym (front-image (w .1) .1) ∙ f);
 }
 
--- edition 1 is known, and holds those who wait at no device
+-- editions 1 and 2 are known, and hold those who have no parent; edition 1, if they wait at no device
 first-known : Known (rowOf 1)
 unfolding queuesOf
-first-known = record { listed = refl; some = omega arith }
+first-known = known-of 1 (λ z. omega arith)
+
+second-known : Known (rowOf 2)
+unfolding queuesOf
+second-known = known-of 2 (λ z. omega arith)
+
+unfoldable parentless : List Thread → Bool
+parentless [] = true
+parentless (t ∷ ts) = eqb (t .parent) nobody && parentless ts
+
+parentless-at : (ts : List Thread) (p : ℕ) → parentless ts ≡ true → getD ts p vacant .parent ≡ nobody
+unfolding parentless
+parentless-at [] p e = refl
+parentless-at (t ∷ ts) zero e = eqb-true (t .parent) nobody (and-left (eqb (t .parent) nobody) _ e)
+parentless-at (t ∷ ts) (suc p) e = parentless-at ts p (and-right (eqb (t .parent) nobody) _ e)
 
 unfoldable empties : List (List ℕ) → Bool
 empties [] = true
@@ -121,19 +158,28 @@ empty-at ([] ∷ ls) zero e = refl
 empty-at ((x ∷ l) ∷ ls) zero e = never refl (sym e)
 empty-at (l ∷ ls) (suc i) e = empty-at ls i (and-right (isNil l) _ e)
 
-holds-by : (n : ℕ) (m : Model) → empties (take (queueCount - n) (drop n (m .lines))) ≡ true → (q : ℕ) → n ≤ q → q < queueCount → line m q ≡ []
-holds-by n m e q h k =
+empties-by : (n : ℕ) (m : Model) → empties (take (queueCount - n) (drop n (m .lines))) ≡ true → (q : ℕ) → n ≤ q → q < queueCount → line m q ≡ []
+empties-by n m e q h k =
     let i : n + (q - n) ≡ q = omega arith in
     ap (line m) (sym i) ∙ sym (getD-drop n (m .lines) (q - n) []) ∙ sym (getD-take (queueCount - n) (drop n (m .lines)) (q - n) [] (omega arith))
     ∙ empty-at (take (queueCount - n) (drop n (m .lines))) (q - n) e
 
+holds-by : (row : Row) (m : Model) → empties (take (queueCount - row .queues) (drop (row .queues) (m .lines))) ≡ true → parentless (m .threads) ≡ true → Holds row m
+holds-by row m e f = record { queues = empties-by (row .queues) m e; parents = λ _ p. parentless-at (m .threads) p f }
+
 -- each row's image is that of its state in its edition, and both ways
 pub counted-images : Every (λ c. (encodeAs (rowOf (c .edition)) (state c) ≡ c .image) × (encode (state c) ≡ c .saved) × Undone (state c) (c .image) (c .saved)) images
-unfolding images empties encodeAs queuesOf queuesIn allPlaces tally firstFree
+unfolding images parentless empties encodeAs queuesOf parentsOf queuesIn allPlaces tally firstFree
 counted-images = (
-  (refl, refl, undone fresh 1 _ _ first-known (holds-by 2 fresh refl) fresh-consistent refl refl),
+  (refl, refl, undone fresh 1 _ _ first-known (holds-by (rowOf 1) fresh refl refl) fresh-consistent refl refl),
   (
-    (refl, refl, undone (after pair fresh) 1 _ _ first-known (holds-by 2 (after pair fresh) refl) (always pair fresh fresh-consistent (omega arith, (omega arith, tt))) refl refl),
-    ((refl, refl, undone (after waits fresh) 2 _ _ newest-known (newest-holds (after waits fresh)) (always waits fresh fresh-consistent (omega arith, (omega arith, tt))) refl refl), tt),
+    (refl, refl, undone (after strangers fresh) 1 _ _ first-known (holds-by (rowOf 1) (after strangers fresh) refl refl) strangers-consistent refl refl),
+    (
+      (refl, refl, undone (after strangers fresh) 2 _ _ second-known (holds-by (rowOf 2) (after strangers fresh) refl refl) strangers-consistent refl refl),
+      (
+        (refl, refl, undone (after waits fresh) 2 _ _ second-known (holds-by (rowOf 2) (after waits fresh) refl refl) (always waits fresh fresh-consistent (omega arith, (omega arith, tt))) refl refl),
+        ((refl, refl, undone (after pair fresh) 3 _ _ newest-known (newest-holds (after pair fresh)) (always pair fresh fresh-consistent (omega arith, (omega arith, tt))) refl refl), tt),
+      ),
+    ),
   ),
 )

@@ -1,7 +1,7 @@
 -- The candidate as it is read: the queues, entry after entry, and the whole. Of bytes that are the image of m comes a state that shows m. Assumes nothing.
 use mathlib.Core.Path.{_≡_, refl, sym, ap, subst, _∙_}
 use mathlib.Core.List.{List, [], _∷_, _++_}
-use mathlib.Core.Bool.{Bool, cond}
+use mathlib.Core.Bool.{Bool, false, cond}
 use Prim.Native.Nat.{ℕ, suc, _+_, _*_, _≤_, _<_}
 use native.Mathlib.Numerals.{add-one}
 use native.Mathlib.Omega.{arith}
@@ -13,7 +13,7 @@ use Rattle.lists.specs.Sizes.{queueCount}
 use Rattle.lists.specs.Laws.{by-test}
 use Rattle.lists.specs.Bytes.{twoAt}
 use Rattle.lines.specs.Lines.{lineOf, Clear}
-use Rattle.rules.specs.Model.{places, lineCount, Model, inbox, thread, line, live}
+use Rattle.rules.specs.Model.{places, lineCount, Thread, Model, inbox, thread, line, live}
 use Rattle.rules.specs.Consistent.{ConsistentBy}
 use Rattle.table.specs.Cells.{modelOf, Filled}
 use Rattle.table.specs.Clean.{Sized, Emptied}
@@ -27,11 +27,11 @@ use Rattle.saving.specs.Longest.{live-length}
 use Rattle.saving.specs.declared.format.Row.{Row}
 use Rattle.loading.specs.Loads.{ImageAsBy}
 use Rattle.loading.specs.Positions.{offset}
-use Rattle.loading.specs.Reading.{Joined, threadIn, Filed, opened, Upto, queueAt, QueuesUpto, QueuesRead, Entered}
+use Rattle.loading.specs.Reading.{Joined, threadIn, Filed, opened, Upto, queueAt, QueuesUpto, QueuesRead, Parentless, Entered}
 use Rattle.loading.specs.Finds.{last-is, running-is, live-is, size-found, queue-found, thread-is, inbox-length, inbox-is}
 use Rattle.loading.specs.Entry.{within, split, p-low, p-new, p-is, n-is, o-is, entryAt}
 use Rattle.loading.specs.Joins.{filed-more}
-use Rattle.loading.specs.Fills.{filed-none, seats-none, opened-queue, opened-inbox, opened-here, opened-there, seats-more, all-read}
+use Rattle.loading.specs.Fills.{filed-none, seats-none, opened-queue, opened-inbox, opened-here, opened-there, seats-more, parentless-more, all-read}
 
 -- ---- the queues
 
@@ -61,7 +61,7 @@ queues-read {row} {s} {l} {l₁} {q} U e = record {
       record {
         tidy = F .tidy;
         lines = each-line (λ r. lineOf places l₁ r ≡ cond (opened [] r) (line m r) [])
-            (λ r h. rw (opened-queue [] r h) (F .lines r (omega arith) ∙ by-test (ltb r q) (λ t. rw t) (λ t. let z = ltb-false r q t in rw t (sym (I .holds r (omega arith) h)))))
+            (λ r h. rw (opened-queue [] r h) (F .lines r (omega arith) ∙ by-test (ltb r q) (λ t. rw t) (λ t. let z = ltb-false r q t in rw t (sym (I .holds .queues r (omega arith) h)))))
             (λ p h. let a = inbox-at p in rw (opened-inbox [] p) (F .lines (inbox p) (omega arith) ∙ rw (le-ltb (inbox p) q (omega arith))));
       };
 }
@@ -72,10 +72,11 @@ queues-read {row} {s} {l} {l₁} {q} U e = record {
 pub entered-no : {row : Row} {s b w l : List ℕ} {i e : ℕ} → Sized b w → e ≡ entryAt row i → places ≤ getD s e 0 → Entered row s i (i + 1) b w l b w l
 entered-no {row} {s} {i = i} k z h = record {
   sized = k;
+  parentless = λ _ f. f;
   reads = λ strict m I g U. let t : i < live m = omega arith in let e = ap (λ (x : ℕ). getD s x 0) z ∙ p-is I t in let v = p-low I t in absurd (omega arith);
 }
 
-module _ {row : Row} {s b w l b′ w′ l′ : List ℕ} {i e p n o c : ℕ} (W : Stored b w p (λ _. threadIn s n o) b′ w′) (j : Joined s (o + bodyLength) c (queueCount + p) c l l′)
+module _ {row : Row} {s b w l b′ w′ l′ : List ℕ} {i e p n o c : ℕ} (W : Stored b w p (λ _. threadIn row s n o) b′ w′) (j : Joined s (o + bodyLength row) c (queueCount + p) c l l′)
     (ee : e ≡ entryAt row i) (ep : p ≡ getD s e 0) (en : n ≡ getD s (e + 1) 0) (eo : o ≡ twoAt s (e + 2)) (ec : c ≡ getD s (o + inboxLengthAt) 0) where
   module _ (strict : Bool) (m : Model) (I : ImageAsBy strict row m s) (g : i < live m) (U : Upto m (take i (livePlaces m)) b w l) where
     abbrev who : ℕ
@@ -111,15 +112,15 @@ module _ {row : Row} {s b w l b′ w′ l′ : List ℕ} {i e p n o c : ℕ} (W 
     })
 
   pub entered-one : Entered row s i (i + 1) b w l b′ w′ l′
-  entered-one = rw add-one (record { sized = record { blocks = W .blocks; words = W .words }; reads = λ strict m I g U. one-more strict m I (omega arith) U })
+  entered-one = rw add-one (record { sized = record { blocks = W .blocks; words = W .words }; parentless = λ z. parentless-more W (rw z); reads = λ strict m I g U. one-more strict m I (omega arith) U })
 
 -- ---- all entries
 
 pub entered-none : {row : Row} {s b w l : List ℕ} → Sized b w → Entered row s 0 0 b w l b w l
-entered-none k = record { sized = k; reads = λ strict m I g U. U }
+entered-none k = record { sized = k; parentless = λ _ f. f; reads = λ strict m I g U. U }
 
 pub entered-more : {row : Row} {s : List ℕ} {i : ℕ} {b w l b₁ w₁ l₁ b₂ w₂ l₂ : List ℕ} → Entered row s 0 i b w l b₁ w₁ l₁ → Entered row s i (i + 1) b₁ w₁ l₁ b₂ w₂ l₂ → Entered row s 0 (i + 1) b w l b₂ w₂ l₂
-entered-more E F = record { sized = F .sized; reads = λ strict m I g U. F .reads strict m I g (E .reads strict m I (omega arith) U) }
+entered-more E F = record { sized = F .sized; parentless = λ e f. F .parentless e (E .parentless e f); reads = λ strict m I g U. F .reads strict m I g (E .reads strict m I (omega arith) U) }
 
 -- ---- the whole
 
@@ -134,6 +135,9 @@ module _ {row : Row} {s b w l b′ w′ l₁ l′ : List ℕ} {n f y x : ℕ} (e
 
     is-seen : modelOf y x b′ w′ l′ ≡ m
     is-seen = rw (ey ∙ last-is I, ex ∙ running-is I) (all-read (old-of strict (I .consistent)) all-in)
+
+  pub candidate-parentless : row .parents ≡ false → Parentless b′
+  candidate-parentless z = E .parentless z (λ p h. ap (λ (x : Thread). x .parent) (e .clean p h))
 
   pub candidate-shows : (strict : Bool) (m : Model) → ImageAsBy strict row m s → ShowsBy strict (record { filled = f; last = record { 0 = y }; running = record { 0 = x }; blocks = b′; words = w′; lines = l′ }) m
   candidate-shows strict m I = record {

@@ -78,11 +78,11 @@ abbrev pub bodyAt : Row → List ℕ → ℕ → ℕ
 bodyAt row s i = twoAt s (entryAt row i + 2)
 
 module _ {strict : Bool} {row : Row} {m : Model} {s : List ℕ} (I : ImageAsBy strict row m s) {i : ℕ} (h : i < live m) where
-  pub entry-thread : thread m (getD s (entryAt row i) 0) ≡ threadIn s (getD s (entryAt row i + 1) 0) (bodyAt row s i)
+  pub entry-thread : thread m (getD s (entryAt row i) 0) ≡ threadIn row s (getD s (entryAt row i + 1) 0) (bodyAt row s i)
   entry-thread = rw (p-is I h, n-is I h, o-is I h) (sym (thread-is I (take i (livePlaces m)) (getD (livePlaces m) i 0) (drop (suc i) (livePlaces m)) (split I h)))
 
   entry-inbox-length : getD s (bodyAt row s i + inboxLengthAt) 0 ≡ length (line m (inbox (getD (livePlaces m) i 0)))
   entry-inbox-length = ap (λ (x : ℕ). getD s (x + inboxLengthAt) 0) (o-is I h) ∙ inbox-length I (take i (livePlaces m)) (getD (livePlaces m) i 0) (drop (suc i) (livePlaces m)) (split I h)
 
-  pub entry-inbox : line m (inbox (getD s (entryAt row i) 0)) ≡ take (getD s (bodyAt row s i + inboxLengthAt) 0) (drop (bodyAt row s i + bodyLength) s)
+  pub entry-inbox : line m (inbox (getD s (entryAt row i) 0)) ≡ take (getD s (bodyAt row s i + inboxLengthAt) 0) (drop (bodyAt row s i + bodyLength row) s)
   entry-inbox = rw (p-is I h, entry-inbox-length, o-is I h) (sym (inbox-is I (take i (livePlaces m)) (getD (livePlaces m) i 0) (drop (suc i) (livePlaces m)) (split I h)))

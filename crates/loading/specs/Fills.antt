@@ -18,11 +18,12 @@ use Rattle.rules.specs.Consistent.{OldConsistent}
 use Rattle.order.specs.Sound.{old-sound, sending, sent}
 use Rattle.table.specs.Cells.{threadOf, modelOf}
 use Rattle.table.specs.Clean.{Sized, Emptied}
-use Rattle.table.specs.Stores.{Stood, Told, Named, Stored, wrote-then, named, stood, heard}
+use Rattle.table.specs.Stores.{Stood, Told, Named, Raised, Stored, wrote-then, named, stood, heard, raised}
 use Rattle.saving.specs.Format.{livePlaces}
 use Rattle.saving.specs.Queues.{inbox-at, each-line}
+use Rattle.saving.specs.declared.format.Row.{Row}
 use Rattle.loading.specs.Positions.{live-in}
-use Rattle.loading.specs.Reading.{threadIn, Filed, opened, Seats, Upto}
+use Rattle.loading.specs.Reading.{threadIn, Filed, opened, Seats, Upto, Parentless}
 
 -- ---- nothing
 
@@ -63,6 +64,12 @@ seats-more {m} {qs} {p = p} S W e = record {
       (λ y. let z : p ≡ r = eqb-true p r y in rw (among-last r p qs, y) (rw (← z) (W .here ∙ e)))
       (λ y. let z = eqb-false p r y in rw (among-last r p qs, y) (W .there r h (λ u. z (sym u)) ∙ S .threads r h));
 }
+
+pub parentless-more : {b w b′ w′ : List ℕ} {p : ℕ} {t : Thread} → Stored b w p (λ _. t) b′ w′ → t .parent ≡ nobody → Parentless b → Parentless b′
+parentless-more {p = p} W e f r h =
+    by-test (eqb r p)
+    (λ y. let z : r ≡ p = eqb-true r p y in rw z (ap (λ (x : Thread). x .parent) (W .here) ∙ e))
+    (λ y. ap (λ (x : Thread). x .parent) (W .there r h (eqb-false r p y)) ∙ f r h)
 
 -- ---- all of them
 
@@ -112,16 +119,17 @@ module _ {m : Model} (C : OldConsistent m) where
 
 -- ---- what the stores of one thread make of its place
 
-module _ {b w b₁ b₂ w₂ b₃ w₃ : List ℕ} {p n st pa x co wh y : ℕ} (k : Sized b w) (h : p < places) where
-  stored : Named b p n b₁ → Stood b₁ w p st pa x b₂ w₂ → Told b₂ w₂ p co wh y b₃ w₃
-      → Stored b w p (λ _. record { number = n; standing = st; partner = pa; word = x; code = co; who = wh; answer = y }) b₃ w₃
-  stored e s t =
+module _ {b w b₁ b₂ w₂ b₃ w₃ b₄ : List ℕ} {p n st pa x co wh y pr : ℕ} (k : Sized b w) (h : p < places) where
+  stored : Named b p n b₁ → Stood b₁ w p st pa x b₂ w₂ → Told b₂ w₂ p co wh y b₃ w₃ → Raised b₃ p pr b₄
+      → Stored b w p (λ _. record { number = n; standing = st; partner = pa; word = x; code = co; who = wh; answer = y; parent = pr }) b₄ w₃
+  stored e s t r =
       let u = named (k .blocks) (k .words) h e in
       let v = stood (u .blocks) (u .words) h s in
-      wrote-then u (wrote-then v (heard (v .blocks) (v .words) h t))
+      let i = heard (v .blocks) (v .words) h t in
+      wrote-then u (wrote-then v (wrote-then i (raised (i .blocks) (i .words) h r)))
 
   -- read from the bytes
-  pub seated : (s : List ℕ) (o : ℕ) → Named b p n b₁ → Stood b₁ w p st pa x b₂ w₂ → Told b₂ w₂ p co wh y b₃ w₃
-      → record { number = n; standing = st; partner = pa; word = x; code = co; who = wh; answer = y } ≡ threadIn s n o
-      → Stored b w p (λ _. threadIn s n o) b₃ w₃
-  seated s o e u t z = let W = stored e u t in record { blocks = W .blocks; words = W .words; here = W .here ∙ z; there = W .there }
+  pub seated : (row : Row) (s : List ℕ) (o : ℕ) → Named b p n b₁ → Stood b₁ w p st pa x b₂ w₂ → Told b₂ w₂ p co wh y b₃ w₃ → Raised b₃ p pr b₄
+      → record { number = n; standing = st; partner = pa; word = x; code = co; who = wh; answer = y; parent = pr } ≡ threadIn row s n o
+      → Stored b w p (λ _. threadIn row s n o) b₄ w₃
+  seated row s o e u t r z = let W = stored e u t r in record { blocks = W .blocks; words = W .words; here = W .here ∙ z; there = W .there }

@@ -82,7 +82,7 @@ module _ {strict : Bool} {row : Row} {m k : Model} {s : List ℕ} (I : ImageAsBy
   same-queue q h =
       by-test (ltb q (row .queues))
       (λ t. let z = ltb-true q (row .queues) t in sym (queue-found I q z) ∙ queue-found J q z)
-      (λ t. let z = ltb-false q (row .queues) t in I .holds q z h ∙ sym (J .holds q z h))
+      (λ t. let z = ltb-false q (row .queues) t in I .holds .queues q z h ∙ sym (J .holds .queues q z h))
 
   same-line : (q : ℕ) → q < lineCount → line m q ≡ line k q
   same-line = each-line (λ q. line m q ≡ line k q) same-queue same-inbox

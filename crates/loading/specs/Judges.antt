@@ -9,7 +9,7 @@ use native.Mathlib.Omega.{arith}
 use lib.Dec.{eqb, ltb}
 use lib.ListN.{length, take, drop, getD, length-append}
 use lib.Seq.{take-suc, take-all, take-at, length-take-le, getD-take}
-use borrow.Author.Tests.{eq-eqb, ne-eqb, eqb-true, eqb-false, lt-ltb, le-ltb}
+use borrow.Author.Tests.{eq-eqb, ne-eqb, eqb-true, eqb-false, lt-ltb, le-ltb, ltb-true, ltb-false}
 use Rattle.lists.specs.Sizes.{queueCount}
 use Rattle.lists.specs.Lists.{none, front}
 use Rattle.lists.specs.Laws.{by-test, front-none}
@@ -17,10 +17,11 @@ use Rattle.lists.specs.Tells.{Tells}
 use Rattle.lists.specs.Bytes.{twoAt}
 use Rattle.lines.specs.Lines.{lineOf, Tidy}
 use Rattle.lines.specs.Along.{no-place}
-use Rattle.rules.specs.Model.{places, lineCount, Model, line}
+use Rattle.rules.specs.Values.{nobody}
+use Rattle.rules.specs.Model.{places, lineCount, Model, thread, line}
 use Rattle.rules.specs.Consistent.{Consistent}
 use Rattle.order.specs.Sound.{old-of}
-use Rattle.table.specs.Rows.{line-at}
+use Rattle.table.specs.Rows.{thread-at, line-at, thread-past}
 use Rattle.nucleus.specs.View.{view, ConsistsBy, ShowsBy}
 use Rattle.nucleus.specs.declared.State.{State}
 use Rattle.saving.specs.Format.{Known, newest, Holds, shortestHead, totalAt, headLength, encodeAs, encode}
@@ -28,6 +29,7 @@ use Rattle.saving.specs.Editions.{known-head, known-of, newest-known, newest-ho
 use Rattle.saving.specs.Written.{Written}
 use Rattle.saving.specs.declared.format.Row.{Row}
 use Rattle.loading.specs.Loads.{rowAt, headCode, ImageAsBy, ImageBy, Image, ForeignBy}
+use Rattle.loading.specs.Reading.{Parentless}
 use Rattle.loading.specs.Finds.{row-is, length-is, long-enough}
 
 -- ---- the head
@@ -131,11 +133,17 @@ module _ (row : Row) (s : State) where
   same-line : (q : ℕ) → q < queueCount → line (view s) q ≡ lineOf places (s .lines) q
   same-line q h = line-at (s .last .0) (s .running .0) (s .blocks) (s .words) (s .lines) q (omega arith)
 
-  pub bare-holds : Bare (s .lines) (row .queues) queueCount → Holds row (view s)
-  bare-holds f q h k = same-line q k ∙ f q h k
+  same-parents : Parentless (s .blocks) → (p : ℕ) → thread (view s) p .parent ≡ nobody
+  same-parents f p =
+      by-test (ltb p places)
+      (λ t. let h = ltb-true p places t in rw (thread-at (s .last .0) (s .running .0) (s .blocks) (s .words) (s .lines) p h) (f p h))
+      (λ t. rw (thread-past (s .last .0) (s .running .0) (s .blocks) (s .words) (s .lines) p (ltb-false p places t)))
+
+  pub bare-holds : Bare (s .lines) (row .queues) queueCount → (row .parents ≡ false → Parentless (s .blocks)) → Holds row (view s)
+  bare-holds f g = record { queues = λ q h k. same-line q k ∙ f q h k; parents = λ e. same-parents (g e) }
 
   pub holds-bare : Holds row (view s) → Bare (s .lines) (row .queues) queueCount
-  holds-bare f q h k = sym (same-line q k) ∙ f q h k
+  holds-bare f q h k = sym (same-line q k) ∙ f .queues q h k
 
 -- ---- the candidate, read by the row of byte 0
 

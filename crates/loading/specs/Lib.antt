@@ -11,3 +11,4 @@ pub mod Injective
 pub mod Accepts
 pub mod RoundTrip
 pub mod Counted
+pub mod Parents

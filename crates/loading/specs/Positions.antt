@@ -30,11 +30,11 @@ live-in m p h =
 
 -- where the bodies of the places behind qs start
 abbrev pub offset : Row → Model → List ℕ → ℕ
-offset row m qs = firstBody row m + length (bodies m qs)
+offset row m qs = firstBody row m + length (bodies row m qs)
 
 -- all behind the entry of p, which has qs before it and rs behind it
 abbrev pub behind : Row → Model → List ℕ → ℕ → List ℕ → List ℕ
-behind row m qs p rs = contents m (offset row m qs + length (bodyOf m p)) rs ++ (queues row m ++ bodies m (livePlaces m))
+behind row m qs p rs = contents row m (offset row m qs + length (bodyOf row m p)) rs ++ (queues row m ++ bodies row m (livePlaces m))
 
 module _ (row : Row) (m : Model) where
   at-tail : (n : ℕ) → drop (headLength row + n) (encodeAs row m) ≡ drop n (tail row m)
@@ -47,11 +47,11 @@ module _ (row : Row) (m : Model) where
   lengths-at = append-assoc (queueLengths row m) (twoBytes (headLength row + length (tail row m))) (tail row m)
 
   -- behind the head and the contents: the queues, and then the bodies
-  pub queues-at : drop (headLength row + entryLength * live m) (encodeAs row m) ≡ queues row m ++ bodies m (livePlaces m)
+  pub queues-at : drop (headLength row + entryLength * live m) (encodeAs row m) ≡ queues row m ++ bodies row m (livePlaces m)
   queues-at =
-      let e = contents-length m (firstBody row m) (livePlaces m) in
+      let e = contents-length row m (firstBody row m) (livePlaces m) in
       let v = live-length m in
-      at-tail (entryLength * live m) ∙ drop-at (contents m (firstBody row m) (livePlaces m)) (queues row m ++ bodies m (livePlaces m)) (entryLength * live m) (omega arith)
+      at-tail (entryLength * live m) ∙ drop-at (contents row m (firstBody row m) (livePlaces m)) (queues row m ++ bodies row m (livePlaces m)) (entryLength * live m) (omega arith)
 
   -- p is live, and qs are before it
   module _ (qs : List ℕ) (p : ℕ) (rs : List ℕ) (split : livePlaces m ≡ qs ++ (p ∷ rs)) where
@@ -59,19 +59,19 @@ module _ (row : Row) (m : Model) where
     pub entry-at : drop (headLength row + entryLength * length qs) (encodeAs row m) ≡ p ∷ thread m p .number ∷ twoBytes (offset row m qs) ++ behind row m qs p rs
     entry-at =
         at-tail (entryLength * length qs)
-        ∙ ap (λ (t : List ℕ). drop (entryLength * length qs) (t ++ (queues row m ++ bodies m (livePlaces m)))) (ap (contents m (firstBody row m)) split ∙ contents-append m (firstBody row m) qs (p ∷ rs))
-        ∙ ap (drop (entryLength * length qs)) (append-assoc (contents m (firstBody row m) qs) (contents m (offset row m qs) (p ∷ rs)) (queues row m ++ bodies m (livePlaces m)))
-        ∙ drop-at (contents m (firstBody row m) qs) (contents m (offset row m qs) (p ∷ rs) ++ (queues row m ++ bodies m (livePlaces m))) (entryLength * length qs) (contents-length m (firstBody row m) qs)
+        ∙ ap (λ (t : List ℕ). drop (entryLength * length qs) (t ++ (queues row m ++ bodies row m (livePlaces m)))) (ap (contents row m (firstBody row m)) split ∙ contents-append row m (firstBody row m) qs (p ∷ rs))
+        ∙ ap (drop (entryLength * length qs)) (append-assoc (contents row m (firstBody row m) qs) (contents row m (offset row m qs) (p ∷ rs)) (queues row m ++ bodies row m (livePlaces m)))
+        ∙ drop-at (contents row m (firstBody row m) qs) (contents row m (offset row m qs) (p ∷ rs) ++ (queues row m ++ bodies row m (livePlaces m))) (entryLength * length qs) (contents-length row m (firstBody row m) qs)
 
     -- its body
-    pub body-at : drop (offset row m qs) (encodeAs row m) ≡ bodyOf m p ++ bodies m rs
+    pub body-at : drop (offset row m qs) (encodeAs row m) ≡ bodyOf row m p ++ bodies row m rs
     body-at =
         let v = live-length m in
-        let w = length-append (queues row m) (bodies m qs) in
-        let e : offset row m qs ≡ headLength row + entryLength * live m + (length (queues row m) + length (bodies m qs)) = omega arith in
+        let w = length-append (queues row m) (bodies row m qs) in
+        let e : offset row m qs ≡ headLength row + entryLength * live m + (length (queues row m) + length (bodies row m qs)) = omega arith in
         ap (λ (n : ℕ). drop n (encodeAs row m)) e
-        ∙ sym (drop-drop (length (queues row m) + length (bodies m qs)) (headLength row + entryLength * live m) (encodeAs row m))
-        ∙ ap (drop (length (queues row m) + length (bodies m qs))) queues-at
-        ∙ drop-append-add (queues row m) (bodies m (livePlaces m)) (length (bodies m qs))
-        ∙ ap (λ (t : List ℕ). drop (length (bodies m qs)) t) (ap (bodies m) split ∙ bodies-append m qs (p ∷ rs))
-        ∙ drop-at (bodies m qs) (bodies m (p ∷ rs)) (length (bodies m qs)) refl
+        ∙ sym (drop-drop (length (queues row m) + length (bodies row m qs)) (headLength row + entryLength * live m) (encodeAs row m))
+        ∙ ap (drop (length (queues row m) + length (bodies row m qs))) queues-at
+        ∙ drop-append-add (queues row m) (bodies row m (livePlaces m)) (length (bodies row m qs))
+        ∙ ap (λ (t : List ℕ). drop (length (bodies row m qs)) t) (ap (bodies row m) split ∙ bodies-append row m qs (p ∷ rs))
+        ∙ drop-at (bodies row m qs) (bodies row m (p ∷ rs)) (length (bodies row m qs)) refl

@@ -2,7 +2,7 @@
 -- what was read is said for every model m of which the bytes may be the image.
 use mathlib.Core.Path.{_≡_}
 use mathlib.Core.List.{List, [], _++_}
-use mathlib.Core.Bool.{Bool, true, cond}
+use mathlib.Core.Bool.{Bool, true, false, cond}
 use Prim.Native.Nat.{ℕ, zero, suc, _+_, _*_, _-_, _<_}
 use lib.Dec.{ltb}
 use lib.ListN.{length, take, drop, getD}
@@ -10,10 +10,11 @@ use Rattle.lists.specs.Sizes.{queueCount}
 use Rattle.lists.specs.Lists.{among, Distinct}
 use Rattle.lists.specs.Bytes.{wordAt}
 use Rattle.lines.specs.Lines.{lineOf, Loose, Tidy, Turned, Clear}
+use Rattle.rules.specs.Values.{nobody}
 use Rattle.rules.specs.Model.{places, lineCount, Thread, vacant, Model, thread, line, live}
-use Rattle.table.specs.Cells.{threadOf}
+use Rattle.table.specs.Cells.{cell, threadOf}
 use Rattle.table.specs.Clean.{Sized}
-use Rattle.saving.specs.Format.{lengthsAt, headLength, entryLength, livePlaces}
+use Rattle.saving.specs.Format.{lengthsAt, headLength, entryLength, parentAt, livePlaces}
 use Rattle.saving.specs.declared.format.Row.{Row}
 use Rattle.loading.specs.Loads.{ImageAsBy}
 
@@ -32,9 +33,13 @@ pub record Joined (s : List ℕ) (from n q i : ℕ) (l l′ : List ℕ) : Type 0
 
 -- ---- a thread
 
+-- the parent in the body that starts at o: 255 where the row has none
+abbrev pub parentIn : Row → List ℕ → ℕ → ℕ
+parentIn row s o = cond (row .parents) (getD s (o + parentAt) 0) nobody
+
 -- the thread with the number n whose body starts at o
-abbrev pub threadIn : List ℕ → ℕ → ℕ → Thread
-threadIn s n o = record {
+abbrev pub threadIn : Row → List ℕ → ℕ → ℕ → Thread
+threadIn row s n o = record {
   number = n;
   standing = getD s o 0;
   partner = getD s (o + 1) 0;
@@ -42,6 +47,7 @@ threadIn s n o = record {
   code = getD s (o + 6) 0;
   who = getD s (o + 7) 0;
   answer = wordAt s (o + 8);
+  parent = parentIn row s o;
 }
 
 -- ---- how far the reading has come
@@ -79,7 +85,12 @@ pub record QueuesUpto (row : Row) (s : List ℕ) (q at : ℕ) (l l′ : List ℕ
 pub record QueuesRead (row : Row) (s l l′ : List ℕ) : Type 0 where
   pub filed : (strict : Bool) (m : Model) → ImageAsBy strict row m s → Clear places lineCount l → Filed m (opened []) l′
 
+-- nobody has a parent
+abbrev pub Parentless : List ℕ → Type 0
+Parentless b = (p : ℕ) → p < places → getD b (cell 5 p) 0 ≡ nobody
+
 -- the entries of the contents from i to k have been read
 pub record Entered (row : Row) (s : List ℕ) (i k : ℕ) (b w l b′ w′ l′ : List ℕ) : Type 0 where
   pub sized : Sized b′ w′
+  pub parentless : row .parents ≡ false → Parentless b → Parentless b′
   pub reads : (strict : Bool) (m : Model) → ImageAsBy strict row m s → k < suc (live m) → Upto m (take i (livePlaces m)) b w l → Upto m (take k (livePlaces m)) b′ w′ l′

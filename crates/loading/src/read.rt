@@ -1,13 +1,14 @@
 // Reading: a candidate is made of any bytes, and no byte is trusted. No rule of the format is tested here, for what is read of bytes that are no image
 // does not matter: load finds out.
-ghost use mathlib.Core.Bool.{Bool};
+ghost use mathlib.Core.Path.{_≡_};
+ghost use mathlib.Core.Bool.{Bool, false};
 ghost use Prim.Native.Nat.{_+_, _*_, _^_, _≤_, _<_};
 ghost use Rattle.lists.specs.Sizes.{queueCount};
 ghost use Rattle.table.specs.Clean.{Sized};
 ghost use Rattle.table.specs.Stores.{Stored};
 ghost use Rattle.rules.specs.Model.{places, lineCount, Model};
 ghost use Rattle.nucleus.specs.View.{ShowsBy};
-ghost use Rattle.loading.specs.Reading.{Joined, threadIn, QueuesRead, Entered};
+ghost use Rattle.loading.specs.Reading.{Joined, parentIn, threadIn, QueuesRead, Parentless, Entered};
 ghost use Rattle.loading.specs.Loads.{ImageAsBy};
 use super::bytes;
 use lines::Links;
@@ -31,10 +32,21 @@ fn enqueue(image: &[u8], from: usize, count: usize, q: u8, l: &mut Links)
     }
 }
 
+// The parent in the body that starts at o: nobody where the row has none.
+fn parent(row: Row, image: &[u8], o: usize) -> Number
+    requires { ⌜ o < 2 ^ 16 ⌝ }
+    ensures { λ r. ⌜ r .0 ≡ parentIn row (now (image .entry)) o ⌝ }
+{
+    if row.parents {
+        return Number(bytes::at(image, o + format::PARENT_AT));
+    }
+    Number(rules::NOBODY)
+}
+
 // The thread with the number n whose body starts at o comes to the place p.
-fn seat(image: &[u8], o: usize, p: Place, n: Number, b: &mut Blocks, w: &mut Words)
+fn seat(row: Row, image: &[u8], o: usize, p: Place, n: Number, b: &mut Blocks, w: &mut Words)
     requires { ⌜ (o < 2 ^ 16) × (p .0 < places) × Sized (now b) (now w) ⌝ }
-    ensures { λ r. ⌜ Stored (now (b .entry)) (now (w .entry)) (p .0) (λ t. threadIn (now (image .entry)) (n .0) o) (now (b .exit)) (now (w .exit)) ⌝ }
+    ensures { λ r. ⌜ Stored (now (b .entry)) (now (w .entry)) (p .0) (λ t. threadIn row (now (image .entry)) (n .0) o) (now (b .exit)) (now (w .exit)) ⌝ }
 {
     table::name(b, p, n);
     let partner = Number(bytes::at(image, o + format::PARTNER_AT));
@@ -43,6 +55,7 @@ fn seat(image: &[u8], o: usize, p: Place, n: Number, b: &mut Blocks, w: &mut Wor
     let who = Number(bytes::at(image, o + format::WHO_AT));
     let answer = bytes::word(image, o + format::ANSWER_AT);
     table::tell(b, w, p, bytes::at(image, o + format::CODE_AT), who, answer);
+    table::raise(b, p, parent(row, image, o));
 }
 
 // Entry i of the contents is read, with the body that it names.
@@ -57,9 +70,15 @@ fn enter(row: Row, image: &[u8], i: usize, b: &mut Blocks, w: &mut Words, l: &mu
     }
     let o = bytes::two(image, entry + format::OFFSET_AT);
     let n = Number(bytes::at(image, entry + format::NUMBER_AT));
-    seat(image, o, Place(p), n, b, w);
+    seat(row, image, o, Place(p), n, b, w);
     let count = bytes::wide(bytes::at(image, o + format::INBOX_LENGTH_AT));
-    enqueue(image, o + format::BODY, count, table::INBOX_LINES + p, l);
+    enqueue(
+        image,
+        o + format::body_length(row),
+        count,
+        table::INBOX_LINES + p,
+        l,
+    );
 }
 
 // Every entry is read.
@@ -90,10 +109,11 @@ fn queues(row: Row, image: &[u8], l: &mut Links)
     }
 }
 
-// The state of which the bytes may be the image in the edition of the row. If they are the image of any, it is this one's.
+// The state of which the bytes may be the image in the edition of the row. If they are the image of any, it is this one's. It has no parents where the row
+// has none.
 pub fn candidate(row: Row, image: &[u8]) -> State
     requires { ⌜ row .queues ≤ queueCount ⌝ }
-    ensures { λ r. ⌜ ((strict : Bool) (m : Model) → ImageAsBy strict row m (now (image .entry)) → ShowsBy strict r m) ⌝ }
+    ensures { λ r. ⌜ ((strict : Bool) (m : Model) → ImageAsBy strict row m (now (image .entry)) → ShowsBy strict r m) × (row .parents ≡ false → Parentless (r .blocks)) ⌝ }
 {
     let mut b = [0u8; table::BYTES];
     let mut w = [0u32; table::WORDS];

@@ -67,6 +67,8 @@ gave-old m n h C = record {
   any = C .any;
   from = C .from;
   answers = C .answers;
+  parented = C .parented;
+  rooted = C .rooted;
   clean = C .clean;
 }
   where
@@ -82,7 +84,7 @@ wrapped es f = gave-consistent (after es fresh) lastNumber (omega arith) (always
 
 pub starts : Every (λ c. Consistent (c .start)) cases
 unfolding cases
-starts = (new, (new, (new, (new, (new, (new, (new, (new, (new, (new, (new, (new, (alone, (new, (new, (new, (new, (new, (new, (new, (new, (new, (new, (new, (new, (new, (new, (new, (new, (new, (new, (new, (new, (new, (new, (after-end, (left-holding, (after-end, (ready-holding, (one-left, (new, (new, tt))))))))))))))))))))))))))))))))))))))))))
+starts = (new, (new, (new, (new, (new, (new, (new, (new, (new, (new, (new, (new, (alone, (new, (new, (new, (new, (new, (new, (new, (new, (new, (new, (new, (new, (new, (new, (new, (new, (new, (new, (new, (new, (new, (new, (after-end, (left-holding, (after-end, (ready-holding, (one-left, (new, (new, (new, (new, (new, (new, (new, (new, (new, tt)))))))))))))))))))))))))))))))))))))))))))))))))
   where
     new : Consistent fresh
     new = fresh-consistent
@@ -100,4 +102,4 @@ starts = (new, (new, (new, (new, (new, (new, (new, (new, (new, (new, (new, (new,
     ready-holding = wrapped readyHolding (omega arith, (omega arith, (omega arith, (omega arith, (omega arith, (omega arith, tt))))))
 
     one-left : Consistent (gave lastNumber (after firstEnded fresh))
-    one-left = wrapped firstEnded (omega arith, (omega arith, (omega arith, tt)))
+    one-left = wrapped firstEnded (omega arith, (omega arith, (omega arith, (omega arith, tt))))

@@ -80,6 +80,7 @@ thread-same e = λ i. record {
   partner = record { 0 = e i .partner };
   word = e i .word;
   answer = record { code = e i .code; who = record { 0 = e i .who }; word = e i .answer };
+  parent = record { 0 = e i .parent };
 }
 
 pub place-one : (s : State) {r t : Place} {a b : ℕ} → Looked s (r .0 ≡ a) (r .0 ≡ b) → Looked s (t .0 ≡ a) (t .0 ≡ b) → r ≡ t

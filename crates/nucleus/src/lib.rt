@@ -225,7 +225,7 @@ impl State {
         self.step(Event::Reply { to: to, word: word })
     }
 
-    // Event 5: a thread ends.
+    // Event 5: a thread ends, with all that it started.
     pub fn end(self, thread: Number) -> Reply
         ensures { λ r. ⌜ Answers self (End thread) r ⌝ }
     {

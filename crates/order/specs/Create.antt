@@ -8,7 +8,7 @@ use borrow.Author.Tests.{eqb-true, not-false}
 use Rattle.lists.specs.Lists.{none}
 use Rattle.lists.specs.Laws.{by-test, never}
 use Rattle.rules.specs.Model.{places, lastNumber, Empty, Thread, Model, ready, thread}
-use Rattle.rules.specs.Rules.{placeOf, inUse, barred, nextNumber, newcomer, emptyPlace, createAt, create}
+use Rattle.rules.specs.Rules.{placeOf, inUse, barred, nextNumber, newcomer, creator, emptyPlace, createAt, create}
 use Rattle.order.specs.Sound.{Sound, numbered}
 use Rattle.order.specs.Belongs.{in-none, in-ready}
 use Rattle.order.specs.Places.{unused, empty, empty-place}
@@ -19,8 +19,8 @@ use Rattle.order.specs.Numbers.{free-low}
 use Rattle.order.specs.Barred.{some-clear}
 
 -- the empty place p takes a thread with an unused number
-pub filled : (m : Model) → Sound m → (p n : ℕ) → p < places → thread m p .standing ≡ Empty → n ≤ lastNumber → placeOf m n ≡ none → Swap m p (newcomer n) (createAt p n m)
-filled m S p n h zero-p low free = changed m p (newcomer n) n (m .running) _ S (record {
+pub filled : (m : Model) → Sound m → (p n : ℕ) → p < places → thread m p .standing ≡ Empty → n ≤ lastNumber → placeOf m n ≡ none → Swap m p (newcomer n (creator m)) (createAt p n m)
+filled m S p n h zero-p low free = changed m p (newcomer n (creator m)) n (m .running) _ S (record {
   place = h;
   last = low;
   fit = record {
@@ -31,8 +31,8 @@ filled m S p n h zero-p low free = changed m p (newcomer n) n (m .running) _ S (
     apart = λ _ e. omega arith;
     words = (omega arith, omega arith);
   };
-  turn = aside m S p (newcomer n) (omega arith) h (omega arith);
-  shift = joins m S p (newcomer n) ready (omega arith) (in-none m (thread m p) (omega arith)) (in-ready m (newcomer n) refl);
+  turn = aside m S p (newcomer n (creator m)) (omega arith) h (omega arith);
+  shift = joins m S p (newcomer n (creator m)) ready (omega arith) (in-none m (thread m p) (omega arith)) (in-ready m (newcomer n (creator m)) refl);
   standing = omega arith;
   own = λ s k _ e. unused m S n free s (numbered (S .fits s) (omega arith)) (sym e);
   others = λ s k z. unused m S n free s z;
@@ -54,5 +54,5 @@ given-free m S =
     let f = given-clear m S in
     (f .0, by-test (inUse m (nextNumber m)) (λ t. never (rw t) (f .1)) (λ t. eqb-true _ _ (not-false _ t)))
 
-pub creates : (m : Model) → Sound m → emptyPlace m ≢ none → Swap m (emptyPlace m) (newcomer (nextNumber m)) (create m)
+pub creates : (m : Model) → Sound m → emptyPlace m ≢ none → Swap m (emptyPlace m) (newcomer (nextNumber m) (creator m)) (create m)
 creates m S h = let f = given-free m S in filled m S (emptyPlace m) (nextNumber m) (empty-place m h) (empty m h) (f .0) (f .1)

@@ -34,6 +34,7 @@ attends m S busy i low =
       lived = alive m S busy;
       lives = omega arith;
       named = refl;
+      raised = refl;
       fit = record {
         clean = λ z. absurd (omega arith);
         table = λ _. rw (lt-ltb i devices low);

@@ -13,11 +13,12 @@ use Rattle.rules.specs.Values.{nobody}
 use Rattle.rules.specs.Model.{places, Empty, Running, Ready, Model, ready, thread, line}
 use Rattle.rules.specs.Rules.{idle, stands, starts, dispatched}
 use Rattle.rules.specs.Consistent.{ListensToLive, Consistent}
-use Rattle.order.specs.Sound.{Sound, small, front-belongs, whole}
+use Rattle.order.specs.Sound.{Sound, Kin, small, front-belongs, whole}
 use Rattle.order.specs.Belongs.{in-none, in-ready}
 use Rattle.order.specs.Lines.{drops-front, leaves}
 use Rattle.order.specs.Moves.{beside, Kept, moved, starting, still}
 use Rattle.order.specs.Standings.{plain, as-told}
+use Rattle.order.specs.KinKept.{kin-kept}
 
 -- if none runs, the ready queue is empty
 abbrev pub Settled : Model → Type 0
@@ -50,8 +51,8 @@ both m S = go (idle m) refl
 pub dispatch-kept : (m : Model) → Sound m → Kept m (dispatched m)
 dispatch-kept m S = both m S .0
 
-pub dispatch : (m : Model) → Sound m → ListensToLive m → Consistent (dispatched m)
-dispatch m S L = whole (dispatched m) (both m S .0 .sound) (both m S .1) (both m S .0 .listens L)
+pub dispatch : (m : Model) → Sound m → Kin m → ListensToLive m → Consistent (dispatched m)
+dispatch m S K L = whole (dispatched m) (both m S .0 .sound) (both m S .1) (kin-kept m (dispatched m) (both m S .0) K) (both m S .0 .listens L)
 
 -- whoever was not ready stays as it is, and so does every other line
 module _ (m : Model) where

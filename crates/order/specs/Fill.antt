@@ -24,6 +24,7 @@ pub record Swap (m : Model) (p : ℕ) (t : Thread) (k : Model) : Type 0 where
   pub own : thread k p ≡ t
   pub lives : (s : ℕ) → s ≢ p → livesAt k s ≡ livesAt m s
   pub numbers : (s : ℕ) → s ≢ p → thread k s .number ≡ thread m s .number
+  pub parents : (s : ℕ) → s ≢ p → thread k s .parent ≡ thread m s .parent
   pub waits : (s : ℕ) → s ≢ p → thread m s .standing ≡ Ready → Waits m k s
 
 pub after-step : (m a : Model) (p : ℕ) (t : Thread) (b : Model) → Step m a → Swap a p t b → Swap m p t b
@@ -33,6 +34,7 @@ after-step m a p t b F G = record {
   own = G .own;
   lives = λ s n. G .lives s n ∙ F .kept .lives s;
   numbers = λ s n. G .numbers s n ∙ F .kept .numbers s;
+  parents = λ s n. G .parents s n ∙ F .kept .parents s;
   waits = λ s n e. let v = F .waits s e in waits-then m a b s v (G .waits s n (rw (v .0) e));
 }
 
@@ -140,5 +142,6 @@ module _ (m : Model) (p : ℕ) (t : Thread) (y x : ℕ) (ls : List (List ℕ)) (
     own = same;
     lives = λ s n. rw (other s n);
     numbers = λ s n. rw (other s n);
+    parents = λ s n. rw (other s n);
     waits = λ s n e. (other s n, M .shift .spared ready .order s n (rw (S .stood s ready, e) (omega arith)));
   }

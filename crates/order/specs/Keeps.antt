@@ -1,21 +1,23 @@
 -- A fresh nucleus is consistent, and every event, accepted or refused, keeps a consistent nucleus consistent: so does every history.
 use Prim.Native.Nat.{ℕ}
-use mathlib.Core.Path.{_≡_, refl}
+use mathlib.Core.Path.{_≡_, refl, ap}
 use mathlib.Core.List.{List, [], _∷_}
 use mathlib.Core.Bool.{Bool, true, false, cond}
 use native.Mathlib.Omega.{arith}
 use lib.Dec.{eqb}
 use borrow.Author.Tests.{eqb-true}
 use Rattle.lists.specs.Tables.{all-same}
-use Rattle.rules.specs.Model.{places, lineCount, vacant, Model, thread}
+use Rattle.rules.specs.Model.{places, lineCount, Thread, vacant, Model, thread}
 use Rattle.rules.specs.Rules.{fresh, dispatched, act, refusal, next, after}
 use Rattle.rules.specs.Consistent.{Fits, Consistent}
 use Rattle.rules.specs.declared.Event.{Event}
-use Rattle.order.specs.Sound.{Sound, sound, whole}
+use Rattle.order.specs.Sound.{Sound, sound, kin, whole}
 use Rattle.order.specs.Belongs.{in-none}
 use Rattle.order.specs.Dispatch.{dispatch}
 use Rattle.order.specs.End.{fit-vacant}
-use Rattle.order.specs.Acts.{does, acts-sound, acts-listens}
+use Rattle.order.specs.KinKept.{kin-older}
+use Rattle.order.specs.Accepted.{accepted}
+use Rattle.order.specs.Acts.{does, acts-sound, acts-kin, acts-listens}
 
 -- ---- fresh
 
@@ -40,13 +42,17 @@ fresh-sound = record {
     no-places = []
 
 pub fresh-consistent : Consistent fresh
-fresh-consistent = whole fresh fresh-sound (λ _. refl) (λ p. rw (vacant-all p) (λ five. absurd (omega arith)))
+fresh-consistent =
+    whole fresh fresh-sound (λ _. refl) (kin-older fresh fresh-sound (λ p. ap (λ (t : Thread). t .parent) (vacant-all p)))
+    (λ p. rw (vacant-all p) (λ five. absurd (omega arith)))
 
 -- ---- every event
 
 -- an accepted one
 pub acts : (e : Event) (m : Model) → Consistent m → Fits e → refusal e m ≡ 0 → Consistent (dispatched (act e m))
-acts e m C f z = let D = does e m (sound m C) f z in dispatch (act e m) (acts-sound e m D) (acts-listens e m D (C .listens))
+acts e m C f z =
+    let D = does e m (sound m C) (kin m C) f z in
+    dispatch (act e m) (acts-sound e m D) (acts-kin e m (sound m C) (kin m C) (accepted e m z) D) (acts-listens e m D (C .listens))
 
 pub keeps : (e : Event) (m : Model) → Consistent m → Fits e → Consistent (next e m)
 keeps e m C f = go (eqb (refusal e m) 0) refl

@@ -8,6 +8,9 @@ pub mod Lines
 pub mod Moves
 pub mod Fill
 pub mod Standings
+pub mod Above
+pub mod KinKept
+pub mod KinCreate
 pub mod Dispatch
 pub mod Caller
 pub mod Numbers
@@ -20,6 +23,9 @@ pub mod Reply
 pub mod HandBack
 pub mod End
 pub mod Order
+pub mod EndOne
+pub mod Recursion
+pub mod EndFamily
 pub mod Clock
 pub mod Devices
 pub mod Accepted
@@ -27,6 +33,9 @@ pub mod Acts
 pub mod Keeps
 pub mod Lives
 pub mod TurnComes
+pub mod Grown
+pub mod FamilyBack
+pub mod Returned
 pub mod BackOnly
 pub mod NobodyWaits
 pub mod Answerer

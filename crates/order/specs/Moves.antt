@@ -40,6 +40,7 @@ pub record Kept (m k : Model) : Type 0 where
   pub listens : ListensToLive m → ListensToLive k
   pub lives : (s : ℕ) → livesAt k s ≡ livesAt m s
   pub numbers : (s : ℕ) → thread k s .number ≡ thread m s .number
+  pub parents : (s : ℕ) → thread k s .parent ≡ thread m s .parent
 
 -- the place s holds what it held, and has no more ahead of it in ready
 abbrev pub Waits : Model → Model → ℕ → Type 0
@@ -51,7 +52,8 @@ pub record Step (m k : Model) : Type 0 where
   pub waits : (s : ℕ) → thread m s .standing ≡ Ready → Waits m k s
 
 pub still : (m : Model) → Sound m → Step m m
-still m S = record { kept = record { sound = S; listens = λ L. L; lives = λ s. refl; numbers = λ s. refl }; waits = λ s e. (refl, omega arith) }
+still m S =
+    record { kept = record { sound = S; listens = λ L. L; lives = λ s. refl; numbers = λ s. refl; parents = λ s. refl }; waits = λ s e. (refl, omega arith) }
 
 pub kept-then : (m a b : Model) → Kept m a → Kept a b → Kept m b
 kept-then m a b F G = record {
@@ -59,6 +61,7 @@ kept-then m a b F G = record {
   listens = λ L. G .listens (F .listens L);
   lives = λ s. G .lives s ∙ F .lives s;
   numbers = λ s. G .numbers s ∙ F .numbers s;
+  parents = λ s. G .parents s ∙ F .parents s;
 }
 
 pub waits-then : (m a b : Model) (s : ℕ) → Waits m a s → Waits a b s → Waits m b s
@@ -83,6 +86,7 @@ pub record Move (m : Model) (p : ℕ) (t : Thread) (x : ℕ) (ls : List (List �
   pub lived : thread m p .standing ≢ Empty
   pub lives : t .standing ≢ Empty
   pub named : t .number ≡ thread m p .number
+  pub raised : t .parent ≡ thread m p .parent
   pub fit : Fit t
   pub turn : RunsThen m p t x
   pub shift : Shift m p t ls
@@ -103,6 +107,9 @@ module _ (m : Model) (p : ℕ) (t : Thread) (x : ℕ) (ls : List (List ℕ)) (S 
 
   numbered : (s : ℕ) → thread k s .number ≡ thread m s .number
   numbered s = elim (ℕ-discrete s p) [ yes e ↦ rw (e, same) (M .named) | no n ↦ rw (other s n) ]
+
+  parented : (s : ℕ) → thread k s .parent ≡ thread m s .parent
+  parented s = elim (ℕ-discrete s p) [ yes e ↦ rw (e, same) (M .raised) | no n ↦ rw (other s n) ]
 
   living : (s : ℕ) → livesAt k s ≡ livesAt m s
   living s = elim (ℕ-discrete s p) [ yes e ↦ rw (e, same, ne-eqb _ Empty (M .lives), ne-eqb _ Empty (M .lived)) | no n ↦ rw (other s n) ]
@@ -158,7 +165,7 @@ module _ (m : Model) (p : ℕ) (t : Thread) (x : ℕ) (ls : List (List ℕ)) (S 
   ]
 
   pub moved : Kept m (anew m (m .last) p t x ls)
-  moved = record { sound = sound-after; listens = listens-after; lives = living; numbers = numbered }
+  moved = record { sound = sound-after; listens = listens-after; lives = living; numbers = numbered; parents = parented }
 
   -- the one that moves was not ready itself
   pub stepped : thread m p .standing ≢ Ready → Step m (anew m (m .last) p t x ls)

@@ -1,4 +1,4 @@
--- The document's `end` takes the thread out of its line first, `endLast` last. On a Sound nucleus they are the same:
+-- The document's end takes the thread out of its line first, `endLast` last. On a Sound nucleus they are the same:
 -- to leave a line, or to stop running, commutes with every hand-back.
 use Prim.Native.Nat.{ℕ, _<_}
 use mathlib.Core.Path.{_≡_, refl, sym, ap, _∙_}
@@ -16,9 +16,9 @@ use Rattle.lists.specs.Counts.{some-among}
 use Rattle.lists.specs.Without.{without-append}
 use Rattle.rules.specs.Values.{nobody}
 use Rattle.rules.specs.Model.{Empty, Running, Ready, Sending, Waiting, AtDevice, Thread, vacant, Model, ready, clock, device, inbox, thread, line, allPlaces}
-use Rattle.rules.specs.Rules.{placeOf, put, relined, leave, stands, told, woken, handedBack, Group, letGo, awaiting, listening, outOfLine, endAt, end}
+use Rattle.rules.specs.Rules.{placeOf, put, relined, leave, stands, told, woken, handedBack, Group, letGo, awaiting, listening, outOfLine, endAt}
 use Rattle.order.specs.Sound.{Sound, at-index}
-use Rattle.order.specs.Places.{live-placed, placed}
+use Rattle.order.specs.Places.{live-placed}
 use Rattle.order.specs.Moves.{Step}
 use Rattle.order.specs.HandBack.{let-step, handed-all}
 use Rattle.order.specs.End.{endLast}
@@ -187,6 +187,3 @@ in-order m S n p k live number = let H = handed-all m S n p live number k in sam
 
 pub written-at : (m : Model) → Sound m → (p n : ℕ) → thread m p .standing ≢ Empty → thread m p .number ≡ n → endAt p n m ≡ endLast p n m
 written-at m S p n live number = ap (put p vacant) (in-order m S n p allPlaces live number)
-
-pub written : (m : Model) → Sound m → (n : ℕ) → placeOf m n ≢ none → end n m ≡ endLast (placeOf m n) n m
-written m S n h = let at = placed m n h in written-at m S (placeOf m n) n (at .0) (at .1)

@@ -1,6 +1,6 @@
 -- Looking places up: the place of a live number, that of one whose answer names it, and the lowest empty one.
 use Prim.Native.Nat.{ℕ, _≤_, _<_}
-use mathlib.Core.Path.{_≡_, _∙_}
+use mathlib.Core.Path.{_≡_, refl, _∙_}
 use mathlib.Core.Logic.{_≢_, _⊎_, inl, inr}
 use mathlib.Core.Bool.{true, false, _&&_, not}
 use native.Mathlib.Decide.{ℕ-discrete, decLt}
@@ -82,6 +82,10 @@ placed m n h = found-there (λ t. t .number) m n h
 -- .. and the place of a live number is found
 pub live-placed : (m : Model) → Sound m → (n : ℕ) → Live m n → (thread m (placeOf m n) .standing ≢ Empty) × (thread m (placeOf m n) .number ≡ n)
 live-placed m S n l = live-there (λ t. t .number) m n S (l .0) (l .1) (l .2)
+
+-- the only one
+pub place-only : (m : Model) → Sound m → (p : ℕ) → thread m p .standing ≢ Empty → placeOf m (thread m p .number) ≡ p
+place-only m S p h = let v = live-placed m S (thread m p .number) (p, h, refl) in S .differ _ p (v .0) (v .1)
 
 -- a number that is not in use is nobody's
 pub unused : (m : Model) → Sound m → (n : ℕ) → placeOf m n ≡ none → (s : ℕ) → thread m s .standing ≢ Empty → thread m s .number ≢ n

@@ -47,6 +47,7 @@ goes-on m S c e o n w h short =
       lived = lived;
       lives = lived;
       named = refl;
+      raised = refl;
       fit = record {
         clean = λ z. absurd (lived z);
         table = F .table;
@@ -93,6 +94,7 @@ module _ (m : Model) (S : Sound m) (busy : m .running ≢ none) where
           lived = lived;
           lives = omega arith;
           named = refl;
+          raised = refl;
           fit = record {
             clean = λ z. absurd (omega arith);
             table = λ _. rw source;

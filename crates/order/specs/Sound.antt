@@ -1,5 +1,5 @@
--- `Sound`: consistency in the shape that proofs use, without its clause `settled`, which fails in the middle of an event.
--- `old-sound` and `old-whole` say that `OldConsistent` is `Sound` and that clause; `Consistent` has the clause of P2 besides (`sound`, `whole`).
+-- `Sound`: consistency in the shape that proofs use, without its clause `settled` and those of parents (`Kin`), which fail in the middle of an event.
+-- `old-sound`, `old-kin` and `old-whole` say that `OldConsistent` is `Sound` and these; `Consistent` has the clause of P2 besides (`sound`, `kin`, `whole`).
 use Prim.Native.Nat.{ℕ, _^_, _≤_, _<_}
 use mathlib.Core.Path.{_≡_, refl, sym, ap, _∙_}
 use mathlib.Core.Logic.{_≢_}
@@ -13,10 +13,11 @@ use borrow.Author.Tests.{eqb-true, eq-eqb, ltb-true}
 use Rattle.lists.specs.Lists.{none, bit, count}
 use Rattle.lists.specs.Laws.{by-test, never, and-left, and-right}
 use Rattle.lists.specs.Counts.{count-self}
+use Rattle.kin.specs.Climb.{climb}
 use Rattle.rules.specs.Values.{nobody}
 use Rattle.rules.specs.Model.{places, devices, lastNumber, lineCount, Empty, Running, Sending, Awaiting, Receiving, AtDevice, Thread, vacant, Model, ready, inbox, thread, line}
 use Rattle.rules.specs.Rules.{wants, hears}
-use Rattle.rules.specs.Consistent.{belongs, asTable, isAnswer, OldConsistent, ListensToLive, Consistent, ConsistentBy}
+use Rattle.rules.specs.Consistent.{above, belongs, asTable, isAnswer, OldConsistent, ListensToLive, Consistent, ConsistentBy}
 use Rattle.order.specs.ByLine.{at-inbox}
 
 -- a 32-bit word
@@ -53,6 +54,11 @@ pub record Sound (m : Model) : Type 0 where
   -- whoever stands in r's inbox is not one that r is waiting to hear
   pub deaf : (r p : ℕ) → thread m p .standing ≡ Sending → thread m p .partner ≡ thread m r .number → hears (thread m r) (thread m p .number) ≡ false
   pub stood : (p q : ℕ) → count p (line m q) ≡ bit (belongs m (thread m p) q)
+
+-- Parents are live and never form a ring. This is no part of Sound: the end of one thread alone does not keep it where the thread has children.
+pub record Kin (m : Model) : Type 0 where
+  pub parented : (p : ℕ) → thread m p .standing ≢ Empty → thread m p .parent ≢ nobody → Live m (thread m p .parent)
+  pub rooted : (p : ℕ) → thread m p .standing ≢ Empty → (k : ℕ) × (climb (above m) k p ≡ none)
 
 -- ---- what the sizes give
 
@@ -127,8 +133,14 @@ module _ (m : Model) (C : OldConsistent m) where
     stood = C .stood;
   }
 
+  pub old-kin : Kin m
+  old-kin = record { parented = C .parented; rooted = C .rooted }
+
 pub sound : (m : Model) → Consistent m → Sound m
 sound m C = old-sound m (C .old)
+
+pub kin : (m : Model) → Consistent m → Kin m
+kin m C = old-kin m (C .old)
 
 -- either way
 pub old-of : (strict : Bool) {m : Model} → ConsistentBy strict m → OldConsistent m
@@ -150,8 +162,8 @@ module _ (m : Model) (S : Sound m) where
         (λ t. never (eq-eqb _ _ e) (rw t at u))
   ]
 
-  pub old-whole : (m .running ≡ none → line m ready ≡ []) → OldConsistent m
-  old-whole settled = record {
+  pub old-whole : (m .running ≡ none → line m ready ≡ []) → Kin m → OldConsistent m
+  old-whole settled K = record {
     threads = S .threads;
     lines = S .lines;
     words = λ p. S .fits p .words;
@@ -168,8 +180,10 @@ module _ (m : Model) (S : Sound m) where
     any = λ r five e. any-empty r five e (line m (inbox r)) refl;
     from = from-absent;
     answers = λ p. S .fits p .answer;
+    parented = K .parented;
+    rooted = K .rooted;
     clean = λ p. S .fits p .clean;
   }
 
-  pub whole : (m .running ≡ none → line m ready ≡ []) → ListensToLive m → Consistent m
-  whole settled listens = record { old = old-whole settled; listens = listens }
+  pub whole : (m .running ≡ none → line m ready ≡ []) → Kin m → ListensToLive m → Consistent m
+  whole settled K listens = record { old = old-whole settled K; listens = listens }

@@ -45,6 +45,7 @@ module _ (m : Model) (S : Sound m) (p : ℕ) (lived : thread m p .standing ≢ E
         lived = lived;
         lives = k .0;
         named = refl;
+        raised = refl;
         fit = record {
           clean = λ e. absurd (k .0 e);
           table = λ _. r;
@@ -70,6 +71,7 @@ module _ (m : Model) (S : Sound m) (p : ℕ) (lived : thread m p .standing ≢ E
     lived = lived;
     lives = k .0;
     named = refl;
+    raised = refl;
     fit = record {
       clean = λ e. absurd (k .0 e);
       table = λ _. r;

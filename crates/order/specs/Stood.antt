@@ -8,7 +8,7 @@ use lib.Dec.{eqb}
 use borrow.Author.Tests.{eqb-true}
 use Rattle.lists.specs.Lists.{bit, count, among, Distinct}
 use Rattle.lists.specs.Laws.{by-test, never, and-left, and-right}
-use Rattle.lists.specs.Counts.{none-among, among-some, count-distinct}
+use Rattle.lists.specs.Counts.{none-among, some-among, among-some, count-distinct}
 use Rattle.lists.specs.Tables.{bit-low}
 use Rattle.rules.specs.Model.{places, Empty, AtDevice, Model, ready, clock, device, inbox, thread, line}
 use Rattle.rules.specs.Consistent.{belongs}
@@ -17,7 +17,10 @@ use Rattle.order.specs.Sound.{Sound, small, member, sending, sent}
 use Rattle.order.specs.Belongs.{in-none, in-ready, in-clock, in-device, in-inbox}
 
 module _ (m : Model) (S : Sound m) where
-  -- who does not belong in a line does not stand in it
+  -- who belongs in a line stands in it, and who does not does not
+  pub stands-in : (p q : ℕ) → belongs m (thread m p) q ≡ true → among p (line m q) ≡ true
+  stands-in p q e = some-among p (line m q) (let c = S .stood p q ∙ ap bit e in omega arith)
+
   pub stands-out : (p q : ℕ) → belongs m (thread m p) q ≡ false → among p (line m q) ≡ false
   stands-out p q e = none-among p (line m q) (S .stood p q ∙ ap bit e)
 

@@ -15,19 +15,21 @@ use Rattle.lists.specs.Lists.{none, bit, count}
 use Rattle.lists.specs.Laws.{by-test}
 use Rattle.rules.specs.Values.{nobody}
 use Rattle.rules.specs.Model.{places, Empty, Running, Ready, Model, ready, thread, line}
-use Rattle.rules.specs.Rules.{placeOf, idle, stands, starts, dispatched, choice, notLive, act, refusal, next, after}
+use Rattle.rules.specs.Rules.{placeOf, idle, stands, starts, dispatched, choice, inUse, notLive, act, refusal, next, after}
 use Rattle.rules.specs.Consistent.{Fits, Consistent}
 use Rattle.rules.specs.declared.Number.{Number}
 use Rattle.rules.specs.declared.Event.{Event}
 use Rattle.rules.specs.declared.Event.the-variants.{Create, Send, Receive, Reply, End, WaitClock, SliceEnd, Tick, WaitDevice, Interrupt}
 use Rattle.rules.specs.declared.Choice.the-variants.{Run}
-use Rattle.order.specs.Sound.{Sound, small, sound}
-use Rattle.order.specs.Places.{elsewhere, placed, not-in-use}
+use Rattle.order.specs.Sound.{Sound, small, sound, kin}
+use Rattle.order.specs.Places.{elsewhere, place-only}
 use Rattle.order.specs.Ahead.{ahead, ahead-past}
 use Rattle.order.specs.Moves.{beside, here, Waits}
+use Rattle.order.specs.Dispatch.{dispatch-kept}
+use Rattle.order.specs.KinKept.{same-place}
+use Rattle.order.specs.EndFamily.{Of}
 use Rattle.order.specs.Accepted.{Accepted, accepted}
 use Rattle.order.specs.Acts.{Done, does, acts-sound}
-use Rattle.order.specs.Lives.{gone}
 use Rattle.order.specs.Keeps.{AllFit, keeps}
 
 -- ---- the words of the theorem
@@ -56,10 +58,14 @@ abbrev pub slices : List Event → Model → ℕ
 slices [] m = 0
 slices (e ∷ es) m = acting e m + slices es (next e m)
 
--- the first of these events is an end of n, and is not refused
+-- the event is an end that names a thread in whose family n is: n itself, or one that parents lead to from n. (Where it is not refused, that thread lives.)
+abbrev pub EndsOver : ℕ → Event → Model → Type 0
+EndsOver n e m = (t : Number) × (e ≡ End t) × Of m (placeOf m (t .0)) (placeOf m n)
+
+-- the first of these events is such an end, and is not refused
 abbrev pub Ends : ℕ → List Event → Model → Type 0
 Ends n [] m = ⊥
-Ends n (e ∷ es) m = (e ≡ End (record { 0 = n })) × (refusal e m ≡ 0)
+Ends n (e ∷ es) m = EndsOver n e m × (refusal e m ≡ 0)
 
 -- the turn of n has come, and the choice is to run it; or this event ended it, and nobody has its number now
 abbrev pub Come : ℕ → Type 0 → Model → Type 0
@@ -124,26 +130,23 @@ module _ (ends : Type 0) (m : Model) (S : Sound m) (p n k : ℕ) (Q : Queued m p
       go false e = later k (omega arith) Q
 
 module _ (m : Model) (S : Sound m) (p n k : ℕ) (Q : Queued m p n k) where
-  own : (t : Number) → placeOf m (t .0) ≢ none → placeOf m (t .0) ≡ p → t .0 ≡ n
-  own t found e = sym (placed m (t .0) found .1) ∙ ap (λ (x : ℕ). thread m x .number) e ∙ Q .number
-
-  -- it is this thread that is ended: nobody has its number then
-  ended : (t : Number) → placeOf m (t .0) ≢ none → Done (End t) m → placeOf m (t .0) ≡ p → notLive (dispatched (act (End t) m)) n ≡ true
-  ended t found D e =
-      let z : t .0 ≡ n = own t found e in
-      rw (not-in-use (dispatched (act (End t) m)) n (λ s h y. gone t m S D found s h (y ∙ sym z)))
-
-  -- and the number that the event names is its own
-  named : (t : Number) → placeOf m (t .0) ≢ none → placeOf m (t .0) ≡ p → End t ≡ End (record { 0 = n })
-  named t h e = ap (λ (x : ℕ). End (record { 0 = x })) (own t h e)
+  -- it is of the family that is ended: nobody has its number then
+  ended : (t : Number) → Done (End t) m → Of m (placeOf m (t .0)) p × (thread (act (End t) m) p .standing ≡ Empty) → EndsOver n (End t) m × (notLive (dispatched (act (End t) m)) n ≡ true)
+  ended t D w =
+      let a = act (End t) m in
+      let st = Q .standing in
+      let l : thread m p .standing ≢ Empty = omega arith in
+      let u : inUse (dispatched a) n ≡ false = ap (λ (q : ℕ). not (eqb q none)) (same-place (dispatch-kept a (D .sound)) n) ∙ ap (inUse a) (sym (Q .number)) ∙ D .number p l (w .1) in
+      let at : placeOf m n ≡ p = ap (placeOf m) (sym (Q .number)) ∙ place-only m S p l in
+      ((t, refl, rw at (w .0)), rw u)
 
   -- or it goes on waiting
-  waits : (e : Event) → Accepted e m → Done e m → Waits m (act e m) p ⊎ ((e ≡ End (record { 0 = n })) × (notLive (dispatched (act e m)) n ≡ true))
+  waits : (e : Event) → Accepted e m → Done e m → Waits m (act e m) p ⊎ (EndsOver n e m × (notLive (dispatched (act e m)) n ≡ true))
   waits Create A D = inl (D .waits p (elsewhere m A p (let st = Q .standing in omega arith)) (Q .standing))
   waits (Send d w) A D = inl (D .waits p (Q .standing))
   waits (Receive x) A D = inl (D .waits p (Q .standing))
   waits (Reply t w) A D = inl (D .waits p (Q .standing))
-  waits (End t) A D = elim (ℕ-discrete (placeOf m (t .0)) p) [ yes e ↦ inr (named t A e, ended t A D e) | no z ↦ inl (D .waits p (λ y. z (sym y)) (Q .standing)) ]
+  waits (End t) A D = ⊎-elim (λ w. inl w) (λ w. inr (ended t D w)) (D .waits p (Q .standing))
   waits WaitClock A D = inl (D .waits p (Q .standing))
   waits SliceEnd A D = inl (D .waits p (Q .standing))
   waits Tick A D = inl (D .waits p (Q .standing))
@@ -171,12 +174,12 @@ module _ (e : Event) (m : Model) (C : Consistent m) (f : Fits e) (p n k : ℕ) (
       A = accepted e m z
 
       D : Done e m
-      D = does e m (sound m C) f z
+      D = does e m (sound m C) (kin m C) f z
 
       S′ : Sound (act e m)
       S′ = acts-sound e m D
 
-      go : Waits m (act e m) p ⊎ ((e ≡ End (record { 0 = n })) × (notLive (dispatched (act e m)) n ≡ true))
+      go : Waits m (act e m) p ⊎ (EndsOver n e m × (notLive (dispatched (act e m)) n ≡ true))
           → (acting e m ≡ 0) ⊎ ((refusal e m ≡ 0) × (act e m .running ≡ none) × (acting e m ≡ 1)) → Fate (Ends n (e ∷ []) m) (dispatched (act e m)) p n k (acting e m)
       go (inl w) (inl v) = rw v (dispatch-any (Ends n (e ∷ []) m) (act e m) S′ p n k (queued-on m (act e m) p n k Q w))
       go (inl w) (inr v) = rw (v .2) (dispatch-idle (Ends n (e ∷ []) m) (act e m) S′ p n k (queued-on m (act e m) p n k Q w) (v .1))

@@ -17,7 +17,7 @@ use Rattle.rules.specs.Rules.{barred, nextNumber, dispatched, act, full, refusa
 use Rattle.rules.specs.Consistent.{Fits, Consistent}
 use Rattle.rules.specs.declared.Event.{Event}
 use Rattle.rules.specs.declared.Event.the-variants.{Create, Send, Receive, Reply, End, WaitClock, SliceEnd, Tick, WaitDevice, Interrupt}
-use Rattle.order.specs.Sound.{sound}
+use Rattle.order.specs.Sound.{sound, kin}
 use Rattle.order.specs.Places.{NumberAt, HeldAt, lives-at, at-lives, not-barred}
 use Rattle.order.specs.Moves.{Kept}
 use Rattle.order.specs.Fill.{Swap}
@@ -71,7 +71,7 @@ module _ (e : Event) (m : Model) (C : Consistent m) (f : Fits e) (p n : ℕ) (lo
     acted (Send d w) D h = inl (kept-number m (act (Send d w) m) r n (D .kept) h)
     acted (Receive x) D h = inl (kept-number m (act (Receive x) m) r n (D .kept) h)
     acted (Reply t w) D h = inl (kept-number m (act (Reply t w) m) r n (D .kept) h)
-    acted (End t) D h = ⊎-elim (λ v. inl v) (λ v. absurd (v .0 refl)) (swapped-number m (act (End t) m) r n _ _ D h)
+    acted (End t) D h = let v = D .without .stay r (h .0) in inl (v .0, sym (v .1 .number) ∙ h .1)
     acted WaitClock D h = inl (kept-number m (act WaitClock m) r n (D .kept) h)
     acted SliceEnd D h = inl (kept-number m (act SliceEnd m) r n (D .kept) h)
     acted Tick D h = inl (kept-number m (act Tick m) r n (D .kept) h)
@@ -84,7 +84,7 @@ module _ (e : Event) (m : Model) (C : Consistent m) (f : Fits e) (p n : ℕ) (lo
         go : (b : Bool) → eqb (refusal e m) 0 ≡ b → NumberAt (cond b (dispatched (act e m)) m) r n → NumberAt m r n
         go false z h = h
         go true z h =
-            let D = does e m (sound m C) f (eqb-true _ _ z) in
+            let D = does e m (sound m C) (kin m C) f (eqb-true _ _ z) in
             let i = kept-number (act e m) (dispatched (act e m)) r n (dispatch-kept (act e m) (acts-sound e m D)) h in
             ⊎-elim (λ v. v) (λ v. never was-barred (rw v at (given-clear m (sound m C) .1))) (acted e D i)
 

@@ -4,21 +4,20 @@ use Prim.Native.Nat.{ℕ, _≤_}
 use mathlib.Core.Path.{_≡_, refl, sym, ap, _∙_}
 use mathlib.Core.Logic.{_≢_}
 use mathlib.Core.List.{List, [], _∷_}
-use mathlib.Core.Bool.{true, false, not, _&&_, _||_, or-false}
+use mathlib.Core.Bool.{true, false, not, _||_, or-false}
 use native.Mathlib.Omega.{arith}
 use lib.Dec.{eqb}
 use borrow.Author.Tests.{eqb-true, eqb-false, ne-eqb, leb-true, not-true, not-false}
 use Rattle.lists.specs.Lists.{none, count}
 use Rattle.lists.specs.Laws.{by-test, and-left, and-right}
-use Rattle.lists.specs.Search.{first-ext-in}
 use Rattle.rules.specs.Values.{nobody}
 use Rattle.rules.specs.Model.{lastNumber, Empty, Sending, Awaiting, Receiving, Thread, Model, ready, inbox, thread, line, allPlaces, livesAt}
 use Rattle.rules.specs.Rules.{placeOf, idle, inUse, notLive, deadSource, starts, dispatched, letGo, deserted, updated}
 use Rattle.rules.specs.Consistent.{isNumber, asTable, OldConsistent, ListensToLive, Consistent}
-use Rattle.order.specs.Sound.{Fit, Live, Sound, small, old-sound, sound}
+use Rattle.order.specs.Sound.{Fit, Live, Sound, small, old-sound, old-kin, sound}
 use Rattle.order.specs.Places.{placed, live-placed, every-place, lives-at, at-lives}
-use Rattle.order.specs.Moves.{Kept}
 use Rattle.order.specs.Standings.{told-by}
+use Rattle.order.specs.KinKept.{kin-kept}
 use Rattle.order.specs.HandBack.{Fair, Let, lets}
 use Rattle.order.specs.Dispatch.{dispatch, dispatch-kept, dispatch-others, dispatch-lines}
 
@@ -54,11 +53,6 @@ deserted-fair m = record {
 pub not-deserted : (m : Model) (t : Thread) → t .standing ≢ Receiving → deserted m .picks t ≡ false
 not-deserted m t n = rw (ne-eqb (t .standing) Receiving n)
 
--- who is named dead stays so while nobody comes or goes
-pub same-place : {m k : Model} → Kept m k → (n : ℕ) → placeOf k n ≡ placeOf m n
-same-place {m} {k} K n =
-    first-ext-in (λ p. livesAt k p && eqb (thread k p .number) n) (λ p. livesAt m p && eqb (thread m p .number) n) allPlaces (λ p _. rw (K .lives p, K .numbers p))
-
 -- ---- the update
 
 module _ (m : Model) (C : OldConsistent m) where
@@ -85,7 +79,7 @@ module _ (m : Model) (C : OldConsistent m) where
 
   -- the rules as they are call it consistent
   pub updates : Consistent (updated m)
-  updates = dispatch woke S′ heard
+  updates = dispatch woke S′ (kin-kept m woke (all-let .step .kept) (old-kin m C)) heard
 
   -- nobody comes or goes
   pub update-lives : (p : ℕ) → livesAt (updated m) p ≡ livesAt m p

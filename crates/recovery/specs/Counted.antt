@@ -1,15 +1,15 @@
--- "LOADS THAT WERE COUNTED" (document 01): every starred case, of the rules, of the image and of the log, and those of document 02's P1 to P3, in one table
--- that one computed fact covers.
+-- "LOADS THAT WERE COUNTED" (document 01): every starred case, of the rules, of the image and of the log, and those of document 02's P1 to P3 and P5, in one
+-- table that one computed fact covers.
 use Prim.Native.Nat.{ℕ}
 use mathlib.Core.Path.{_≡_, refl}
 use mathlib.Core.List.{List, _++_, map}
 use Rattle.lists.specs.Lists.{tally}
 use Rattle.rules.specs.Model.{allPlaces}
 use Rattle.rules.specs.Devices.{allDevices}
-use Rattle.rules.specs.Rules.{firstFree, outside, updated}
+use Rattle.rules.specs.Rules.{firstFree, outside, endDown, updated}
 use Rattle.rules.specs.Counted.{Seen, Case, found, cases}
 use Rattle.journal.specs.Format.{lengthOf, eventOf, readFrom, readAt}
-use Rattle.saving.specs.Format.{queuesOf, rowOf, queuesIn, encodeAs, encode}
+use Rattle.saving.specs.Format.{queuesOf, parentsOf, rowOf, queuesIn, encodeAs, encode}
 use Rattle.loading.specs.Counted.{CountedImage, state, images}
 use Rattle.updating.specs.Counted.{CountedUpdate, updates}
 use Rattle.logbook.specs.Log.{parsed}
@@ -46,5 +46,5 @@ unfoldable pub table : List Counted
 table = map events cases ++ (map image images ++ (map log logs ++ map update updates))
 
 pub counted : map computed table ≡ map stated table
-unfolding table cases images logs updates encodeAs queuesOf queuesIn allPlaces allDevices outside tally firstFree parsed lengthOf eventOf readFrom readAt
+unfolding table cases images logs updates endDown encodeAs queuesOf parentsOf queuesIn allPlaces allDevices outside tally firstFree parsed lengthOf eventOf readFrom readAt
 counted = refl

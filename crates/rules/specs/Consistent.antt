@@ -1,4 +1,4 @@
--- When a nucleus is consistent (document 01, "The cab's threads", and document 02, P1 and P2), in the order of the document's sentence.
+-- When a nucleus is consistent (document 01, "The cab's threads", and document 02, P1, P2 and P5), in the order of the document's sentence.
 use Prim.Native.Nat.{ℕ, _-_, _^_, _≤_, _<_}
 use mathlib.Core.Path.{_≡_}
 use mathlib.Core.Logic.{_≢_}
@@ -7,8 +7,10 @@ use mathlib.Core.Bool.{Bool, true, false, cond, _&&_, _||_}
 use lib.ListN.{length}
 use lib.Dec.{eqb, leb, ltb}
 use Rattle.lists.specs.Lists.{none, bit, count}
+use Rattle.kin.specs.Climb.{climb}
 use Rattle.rules.specs.Values.{nobody, wordIn, setIn}
-use Rattle.rules.specs.Model.{places, devices, queueCount, lastNumber, Empty, Running, Ready, Sending, Awaiting, Receiving, Waiting, AtDevice, Thread, vacant, Model, ready, clock, device, inbox, lineCount, thread, line}
+use Rattle.rules.specs.Model.{Place, places, devices, queueCount, lastNumber, Empty, Running, Ready, Sending, Awaiting, Receiving, Waiting, AtDevice, Thread, vacant, Model, ready, clock, device, inbox, lineCount, thread, line}
+use Rattle.rules.specs.Rules.{placeOf}
 use Rattle.rules.specs.declared.Event.{Event}
 
 -- is it a thread's number
@@ -39,11 +41,16 @@ asTable st partner word =
 abbrev pub isAnswer : ℕ → ℕ → ℕ → Bool
 isAnswer code who word = (eqb code 0 || eqb code 16) && isNumber who || eqb code 0 && eqb who nobody
 
+-- the place of a thread's parent, or none
+abbrev pub above : Model → Place → Place
+above m p = placeOf m (thread m p .parent)
+
 -- an event's word has 32 bits, and its pending set 32 and 16, as each that the code can hold
 abbrev pub Fits : Event → Type 0
 Fits e = (wordIn e < 2 ^ 32) × (setIn e .low < 2 ^ 32) × (setIn e .high < 2 ^ 16)
 
--- What the old rules, those before P2, call consistent: every clause but that of P2, which comes behind it. The update load takes this.
+-- Every clause but that of P2, which comes behind it. The update load takes this. (The old rules, those before P2, know no parents: where nobody has one, the
+-- clauses of P5 hold, by `kin-older` of crate `order`.)
 pub record OldConsistent (m : Model) : Type 0 where
   -- a thread for each place, a list for each line, and 32-bit words
   pub threads : length (m .threads) ≡ places
@@ -71,6 +78,11 @@ pub record OldConsistent (m : Model) : Type 0 where
   pub from : (r p : ℕ) → thread m r .standing ≡ Receiving → thread m r .partner ≡ thread m p .number → count p (line m (inbox r)) ≡ 0
   -- an answer has code 0 or 16 and who 0..253, or is 0, 255 and a word;
   pub answers : (p : ℕ) → isAnswer (thread m p .code) (thread m p .who) (thread m p .answer) ≡ true
+  -- parents are live ..
+  pub parented : (p : ℕ) → thread m p .standing ≢ Empty → thread m p .parent ≢ nobody
+      → (r : ℕ) × (thread m r .standing ≢ Empty) × (thread m r .number ≡ thread m p .parent)
+  -- .. and never form a ring: from parent to parent one comes to nobody;
+  pub rooted : (p : ℕ) → thread m p .standing ≢ Empty → (k : ℕ) × (climb (above m) k p ≡ none)
   -- an empty place, and a queue slot past its queue's length, holds one fixed clean value. (The slots are the code's: `Tidy` of crate `lines`.)
   pub clean : (p : ℕ) → thread m p .standing ≡ Empty → thread m p ≡ vacant
 
@@ -83,7 +95,7 @@ pub record Consistent (m : Model) : Type 0 where
   pub old : OldConsistent m
   pub listens : ListensToLive m
 
--- By the rules as they are, or, where strict is false, by the old ones: so is everything of which the name ends in By.
+-- By the rules as they are, or, where strict is false, by the old ones, which is without P2's clause: so is everything of which the name ends in By.
 abbrev pub ConsistentBy : Bool → Model → Type 0
 ConsistentBy true m = Consistent m
 ConsistentBy false m = OldConsistent m

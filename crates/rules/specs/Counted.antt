@@ -1,12 +1,14 @@
--- "Loads that were counted" (document 01): the starred cases that need no image and no log, and cases of document 02's P1 to P3, as one table, and one fact
--- that covers it.
+-- "Loads that were counted" (document 01): the starred cases that need no image and no log, and cases of document 02's P1 to P3 and P5, as one table, and one
+-- fact that covers it.
 use Prim.Native.Nat.{ℕ}
 use mathlib.Core.Path.{_≡_, refl}
 use mathlib.Core.List.{List, [], _∷_, _++_, map}
+use mathlib.Core.Bool.{cond}
+use lib.Dec.{eqb}
 use Rattle.lists.specs.Lists.{tally}
 use Rattle.rules.specs.Values.{nobody}
 use Rattle.rules.specs.Model.{lastNumber, Running, Ready, Waiting, Receiving, AtDevice, Thread, vacant, Model, thread, allPlaces}
-use Rattle.rules.specs.Rules.{firstFree, outside, fresh, gave, choice, after, Outcome, outcome}
+use Rattle.rules.specs.Rules.{firstFree, endDown, outside, fresh, gave, choice, after, Outcome, outcome}
 use Rattle.rules.specs.Devices.{allDevices}
 use Rattle.rules.specs.declared.Device.{Device}
 use Rattle.rules.specs.declared.Pending.{Pending}
@@ -52,8 +54,12 @@ begun m = record { state = m; code = 0; choice = choice m; number = nobody }
 abbrev pub found : Case → Seen
 found c = played (begun (c .start)) (c .events) (c .place)
 
+-- thread 0 is created with nobody running, and any other while 0 runs, unless it is said to be started by another
+abbrev parent-as : ℕ → ℕ
+parent-as n = cond (eqb n 0) nobody 0
+
 abbrev thread-as : ℕ → ℕ → ℕ → ℕ → ℕ → ℕ → ℕ → Thread
-thread-as n st pa w c k a = record { number = n; standing = st; partner = pa; word = w; code = c; who = k; answer = a }
+thread-as n st pa w c k a = record { number = n; standing = st; partner = pa; word = w; code = c; who = k; answer = a; parent = parent-as n }
 
 -- the thread n with the answer c, k, a: running ..
 abbrev runner : ℕ → ℕ → ℕ → ℕ → Thread
@@ -62,6 +68,9 @@ runner n c k a = thread-as n Running nobody 0 c k a
 -- .. and ready
 abbrev queued : ℕ → ℕ → ℕ → ℕ → Thread
 queued n c k a = thread-as n Ready nobody 0 c k a
+
+abbrev startedBy : ℕ → Thread → Thread
+startedBy n t = record { number = t .number; standing = t .standing; partner = t .partner; word = t .word; code = t .code; who = t .who; answer = t .answer; parent = n }
 
 abbrev case : Model → List Event → ℕ → ℕ → ℕ → Choice → Thread → Case
 case m es p c n x t = record { start = m; events = es; place = p; seen = record { code = c; number = n; choice = x; thread = t } }
@@ -85,8 +94,13 @@ leftHolding = Create ∷ Create ∷ Receive (no nobody) ∷ Send (no 0) 7 ∷ En
 abbrev pub readyHolding : List Event
 readyHolding = Create ∷ Create ∷ Create ∷ SliceEnd ∷ Send (no 2) 7 ∷ End (no 2) ∷ []
 
+-- 1 is created while nobody runs, since 0 waits for the clock: so it is not ended with 0
 abbrev pub firstEnded : List Event
-firstEnded = Create ∷ Create ∷ End (no 0) ∷ []
+firstEnded = Create ∷ WaitClock ∷ Create ∷ End (no 0) ∷ []
+
+-- 0 creates 1 and 2, and 1, once it runs, creates 3
+abbrev pub family : List Event
+family = Create ∷ Create ∷ Create ∷ SliceEnd ∷ Create ∷ []
 
 unfoldable pub cases : List Case
 cases =
@@ -150,13 +164,24 @@ cases =
     -- 0 runs, and 1, which is ready, has the answer 16, 2, 7: create gives 3.
     ∷ case (gave lastNumber (after readyHolding fresh)) one 2 0 3 (Run (no 0)) (queued 3 0 nobody 0)
     -- Who 255 is nobody, and bars no number: last given 253, only 1 live, its answer 0, 255, 0: create gives 0.
-    ∷ case (gave lastNumber (after firstEnded fresh)) one 0 0 0 (Run (no 1)) (queued 0 0 nobody 0)
+    ∷ case (gave lastNumber (after firstEnded fresh)) one 0 0 0 (Run (no 1)) (startedBy 1 (queued 0 0 nobody 0))
     -- A freed number that nobody holds is not given again at once either: 1 is ended, and the next create gives 2.
     ∷ case fresh (pair ++ (End (no 1) ∷ Create ∷ [])) 1 0 2 (Run (no 0)) (queued 2 0 nobody 0)
     -- A number that is held and not live is still refused: 4.
     ∷ case fresh (dropped ++ (Send (no 1) 7 ∷ [])) 0 4 nobody (Run (no 0)) (runner 0 16 1 7)
+    -- P5. The parent of a thread is the number running at its creation, or 255.
+    ∷ case fresh family 3 0 3 (Run (no 1)) (startedBy 1 (queued 3 0 nobody 0))
+    ∷ case fresh (one ++ (WaitClock ∷ Create ∷ [])) 1 0 1 (Run (no 1)) (startedBy nobody (runner 1 0 nobody 0))
+    -- 1 is ended, and 3 with it; 2 and 0 stay, and 2, the front of ready, runs.
+    ∷ case fresh (family ++ (End (no 1) ∷ [])) 3 0 nobody (Run (no 2)) vacant
+    ∷ case fresh (family ++ (End (no 1) ∷ [])) 2 0 nobody (Run (no 2)) (runner 2 0 nobody 0)
+    ∷ case fresh (family ++ (End (no 1) ∷ [])) 0 0 nobody (Run (no 2)) (queued 0 0 nobody 0)
+    -- 0 is ended, and all with it.
+    ∷ case fresh (family ++ (End (no 0) ∷ [])) 2 0 nobody Halt vacant
+    -- 1 sends to its child 3, and is ended: 3 goes first and wakes 1, which is ended in its turn.
+    ∷ case fresh (family ++ (Send (no 3) 7 ∷ End (no 1) ∷ [])) 1 0 nobody (Run (no 2)) vacant
     ∷ []
 
 pub counted : map found cases ≡ map (λ c. c .seen) cases
-unfolding cases allPlaces allDevices outside firstFree tally
+unfolding cases allPlaces allDevices outside firstFree tally endDown
 counted = refl

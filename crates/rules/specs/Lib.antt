@@ -5,3 +5,4 @@ pub mod Rules
 pub mod Consistent
 pub mod Counted
 pub mod Orders
+pub mod Families

@@ -1,4 +1,4 @@
--- The nucleus as the rules see it (document 01, "The cab's threads", and document 02, P1): threads by place, and a list of places for each line.
+-- The nucleus as the rules see it (document 01, "The cab's threads", and document 02, P1 and P5): threads by place, and a list of places for each line.
 use Prim.Native.Nat.{ℕ, _+_}
 use mathlib.Core.List.{List, []}
 use mathlib.Core.Bool.{Bool, not}
@@ -60,7 +60,7 @@ abbrev pub AtDevice : ℕ
 AtDevice = 7
 
 -- A thread holds: its number; its standing; a partner (a number or 255; in standing 7 a device's index); a 32-bit word; an inbox (a line, below);
--- and the answer to its last finished call: code, who, word (here `answer`).
+-- the answer to its last finished call: code, who, word (here `answer`); and a parent: the number running at its creation, or 255.
 pub record Thread : Type 0 where
   pub number : Number
   pub standing : Code
@@ -69,10 +69,11 @@ pub record Thread : Type 0 where
   pub code : Code
   pub who : Number
   pub answer : Word
+  pub parent : Number
 
 -- An empty place holds one fixed clean value.
 abbrev pub vacant : Thread
-vacant = record { number = nobody; standing = Empty; partner = nobody; word = 0; code = 0; who = nobody; answer = 0 }
+vacant = record { number = nobody; standing = Empty; partner = nobody; word = 0; code = 0; who = nobody; answer = 0; parent = nobody }
 
 -- The last number given, the running place (or none), the threads by place, and the lines: lists of places, front first.
 pub record Model : Type 0 where

@@ -6,7 +6,7 @@ use lib.ListN.{replicate}
 use Rattle.lists.specs.Lists.{none, tally}
 use Rattle.rules.specs.Values.{nobody}
 use Rattle.rules.specs.Model.{places, lineCount, Awaiting, Receiving, Thread, vacant, Model, ready, clock, inbox, line, thread, allPlaces}
-use Rattle.rules.specs.Rules.{firstFree, put, fresh, after, updated}
+use Rattle.rules.specs.Rules.{firstFree, endDown, put, fresh, after, updated}
 use Rattle.rules.specs.Counted.{no}
 use Rattle.rules.specs.declared.Event.{Event}
 use Rattle.rules.specs.declared.Event.the-variants.{Create, Send, Receive, End, WaitClock, SliceEnd, Tick}
@@ -29,21 +29,22 @@ unfolding allPlaces firstFree tally
 first-match = (refl, refl)
 
 handed-by-line : line (after (Create ∷ Create ∷ Create ∷ Create ∷ SliceEnd ∷ Send (no 3) 7 ∷ SliceEnd ∷ SliceEnd ∷ Send (no 3) 9 ∷ End (no 3) ∷ []) fresh) ready ≡ 1 ∷ 0 ∷ []
-unfolding allPlaces firstFree tally
+unfolding allPlaces firstFree tally endDown
 handed-by-line = refl
 
--- Thread 0 is sent a word by 1, 2, 4 and 3, and has received those of 1 and 2 when it ends: the two in its inbox are first, in their line's order, and then
--- those who await its reply, by rising place. (The front of ready, 4, runs then.)
+-- Thread 4 is sent a word by 0, 1, 3 and 2, and has received those of 0 and 1 when it ends: the two in its inbox are first, in their line's order, and then
+-- those who await its reply, by rising place. (The front of ready, 3, runs then.)
 abbrev heardTwo : List Event
 heardTwo =
-    Create ∷ Create ∷ Create ∷ Create ∷ Create ∷ Receive (no nobody) ∷ Send (no 0) 7 ∷ Send (no 0) 8 ∷ SliceEnd ∷ Send (no 0) 9 ∷ Receive (no nobody) ∷ SliceEnd ∷ Send (no 0) 10 ∷ []
+    Create ∷ Create ∷ Create ∷ Create ∷ Create ∷ SliceEnd ∷ SliceEnd ∷ SliceEnd ∷ SliceEnd ∷ Receive (no nobody) ∷ Send (no 4) 7 ∷ Send (no 4) 8 ∷ SliceEnd ∷ Send (no 4) 9
+    ∷ Receive (no nobody) ∷ SliceEnd ∷ Send (no 4) 10 ∷ []
 
 end-by-groups :
-    (line (after heardTwo fresh) (inbox 0) ≡ 4 ∷ 3 ∷ [])
-    × (map (λ (p : ℕ). thread (after heardTwo fresh) p .standing) (1 ∷ 2 ∷ []) ≡ Awaiting ∷ Awaiting ∷ [])
-    × (after (heardTwo ++ (End (no 0) ∷ [])) fresh .running ≡ 4)
-    × (line (after (heardTwo ++ (End (no 0) ∷ [])) fresh) ready ≡ 3 ∷ 1 ∷ 2 ∷ [])
-unfolding allPlaces firstFree tally
+    (line (after heardTwo fresh) (inbox 4) ≡ 3 ∷ 2 ∷ [])
+    × (map (λ (p : ℕ). thread (after heardTwo fresh) p .standing) (0 ∷ 1 ∷ []) ≡ Awaiting ∷ Awaiting ∷ [])
+    × (after (heardTwo ++ (End (no 4) ∷ [])) fresh .running ≡ 3)
+    × (line (after (heardTwo ++ (End (no 4) ∷ [])) fresh) ready ≡ 2 ∷ 0 ∷ 1 ∷ [])
+unfolding allPlaces firstFree tally endDown
 end-by-groups = (refl, refl, refl, refl)
 
 -- P2: thread 5 has 4 and 3 in its inbox and owes 2 a reply, and 1 and then 0 receive from it. When it ends, these come last, by rising place, with word 0.
@@ -60,12 +61,12 @@ end-by-three-groups :
     (line (after listenedTo fresh) (inbox 5) ≡ 4 ∷ 3 ∷ [])
     × (wokenIn (after (listenedTo ++ (End (no 5) ∷ [])) fresh) (0 ∷ 1 ∷ 2 ∷ [])
     ≡ (4 ∷ []) ∷ (3 ∷ 2 ∷ 0 ∷ 1 ∷ []) ∷ (16 ∷ 5 ∷ 0 ∷ []) ∷ (16 ∷ 5 ∷ 0 ∷ []) ∷ (16 ∷ 5 ∷ 7 ∷ []) ∷ [])
-unfolding allPlaces firstFree tally
+unfolding allPlaces firstFree tally endDown
 end-by-three-groups = (refl, refl)
 
 -- a thread of number n that receives from another, as under the old rules it could whoever that was
 abbrev receiver : ℕ → ℕ → Thread
-receiver n from = record { number = n; standing = Receiving; partner = from; word = 0; code = 0; who = nobody; answer = 0 }
+receiver n from = record { number = n; standing = Receiving; partner = from; word = 0; code = 0; who = nobody; answer = 0; parent = nobody }
 
 -- The update load: 0 and 2 receive from 9 and 7, who are dead, 1 from 2, who lives, and 3 from any. Nobody runs: 0 and 2 are woken, by rising place, and 0
 -- runs. (The nucleus is written out, since one that is played from fresh is computed anew at each look.)

@@ -1,11 +1,12 @@
--- THE RULES (document 01, "The eight events" and "When the nucleus says no"; document 02, P1 to P3), in the documents' order and words.
+-- THE RULES (document 01, "The eight events" and "When the nucleus says no"; document 02, P1 to P3 and P5), in the documents' order and words.
 -- No proofs here: what is proved of the rules is in the crate `order`.
 use Prim.Native.Nat.{ℕ, zero, suc, _+_}
 use mathlib.Core.List.{List, [], _∷_, _++_}
 use mathlib.Core.Bool.{Bool, true, false, cond, not, _&&_, _||_}
 use lib.ListN.{set, replicate}
 use lib.Dec.{ltb, eqb}
-use Rattle.lists.specs.Lists.{none, without, firstOf, upFrom}
+use Rattle.lists.specs.Lists.{none, without, firstOf, only, upFrom}
+use Rattle.kin.specs.Turns.{inTurn}
 use Rattle.rules.specs.Values.{nobody}
 use Rattle.rules.specs.Model.{Place, Number, Device, Code, Word, places, devices, lastNumber, Running, Ready, Sending, Awaiting, Receiving, Waiting, AtDevice, Thread, vacant, Model, ready, clock, device, inbox, lineCount, thread, line, allPlaces, livesAt, live}
 use Rattle.rules.specs.Devices.{firstPending}
@@ -51,13 +52,13 @@ join q p m = relined q (line m q ++ (p ∷ [])) m
 abbrev pub leave : ℕ → Place → Model → Model
 leave q p m = relined q (without p (line m q)) m
 
--- a thread with another standing, partner and word. Its answer stays: an answer changes only where a rule says so.
+-- a thread with another standing, partner and word. Its answer stays: an answer changes only where a rule says so. (And nobody's parent changes.)
 abbrev pub stands : Code → Number → Word → Thread → Thread
-stands st pa w t = record { number = t .number; standing = st; partner = pa; word = w; code = t .code; who = t .who; answer = t .answer }
+stands st pa w t = record { number = t .number; standing = st; partner = pa; word = w; code = t .code; who = t .who; answer = t .answer; parent = t .parent }
 
 -- a thread with another answer: code, who, word
 abbrev pub told : Code → Number → Word → Thread → Thread
-told c n w t = record { number = t .number; standing = t .standing; partner = t .partner; word = t .word; code = c; who = n; answer = w }
+told c n w t = record { number = t .number; standing = t .standing; partner = t .partner; word = t .word; code = c; who = n; answer = w; parent = t .parent }
 
 -- p goes to the back of ready. Nothing ever enters ready except at the back.
 abbrev pub readied : Place → Model → Model
@@ -107,8 +108,8 @@ fresh = record { last = lastNumber; running = none; threads = replicate places v
 -- ---- 1. Create. The thread joins the back of the ready queue. Returns its number (below, `given`).
 
 -- A new thread's answer is 0, 255, 0.
-abbrev pub newcomer : Number → Thread
-newcomer n = record { number = n; standing = Ready; partner = nobody; word = 0; code = 0; who = nobody; answer = 0 }
+abbrev pub newcomer : Number → Number → Thread
+newcomer n pa = record { number = n; standing = Ready; partner = nobody; word = 0; code = 0; who = nobody; answer = 0; parent = pa }
 
 -- A new thread takes the lowest empty place.
 abbrev pub emptyPlace : Model → Place
@@ -118,8 +119,12 @@ emptyPlace m = firstOf (λ p. not (livesAt m p)) allPlaces
 abbrev pub gave : Number → Model → Model
 gave n m = record { last = n; running = m .running; threads = m .threads; lines = m .lines }
 
+-- Each thread gets a parent: the number running at its creation, or 255.
+abbrev pub creator : Model → Number
+creator m = cond (idle m) nobody (mine m)
+
 abbrev pub createAt : Place → Number → Model → Model
-createAt p n m = join ready p (put p (newcomer n) (gave n m))
+createAt p n m = join ready p (put p (newcomer n (creator m)) (gave n m))
 
 abbrev pub create : Model → Model
 create m = createAt (emptyPlace m) (nextNumber m) m
@@ -214,8 +219,28 @@ endAt p n m =
     let m₂ = handedBack n p (line m₁ (inbox p)) m₁ in
     put p vacant (letGo (listening n) allPlaces (letGo (awaiting n) allPlaces m₂))
 
+-- the thread at p, by the whole of that
+abbrev pub endOne : Place → Model → Model
+endOne p m = endAt p (thread m p .number) m
+
+-- is the thread at r a child of the thread at p
+abbrev pub childOf : Model → Place → Place → Bool
+childOf m p r = livesAt m r && eqb (thread m r .parent) (thread m p .number)
+
+-- the children of the thread at p, lowest place first
+abbrev pub children : Model → Place → List Place
+children m p = only (childOf m p) allPlaces
+
+-- Ending a thread goes down through its children, lowest place first, each child's own children before it, and ends the parent last. d is the depth left.
+-- Woken threads that are themselves in the family are ended in their turn: they are children as before. The next thread is chosen only once, at the end
+-- (below, `dispatched`).
+unfoldable pub endDown : ℕ → Place → Model → Model
+endDown zero p m = m
+endDown (suc d) p m = endOne p (inTurn (endDown d) (children m p) m)
+
+-- the depth is at first the live count
 abbrev pub end : Number → Model → Model
-end n m = endAt (placeOf m n) n m
+end n m = endDown (live m) (placeOf m n) m
 
 -- ---- 6. Wait for the clock. The caller joins the back of the clock queue.
 

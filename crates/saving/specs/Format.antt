@@ -1,38 +1,50 @@
--- THE IMAGE (document 01, "The image and the log"; document 02, P1), in the documents' order and words. Saving, loading and looking up are all held to this one text, and so is
--- every edition: what an edition has of the format is its row of the table.
+-- THE IMAGE (document 01, "The image and the log"; document 02, P1 and P5), in the documents' order and words. Saving, loading and looking up are all held to
+-- this one text, and so is every edition: what an edition has of the format is its row of the table.
 use Prim.Native.Nat.{ℕ, _+_, _*_, _≤_, _<_}
 use mathlib.Core.Path.{_≡_}
 use mathlib.Core.List.{List, [], _∷_, _++_}
+use mathlib.Core.Bool.{Bool, true, false, cond}
 use lib.ListN.{length, getD}
 use Rattle.lists.specs.Sizes.{queueCount}
-use Rattle.lists.specs.Lists.{upFrom, only}
+use Rattle.lists.specs.Lists.{bit, upFrom, only}
 use Rattle.lists.specs.Bytes.{twoBytes, wordBytes}
-use Rattle.rules.specs.Model.{Place, Thread, Model, inbox, thread, line, allPlaces, livesAt, live}
+use Rattle.rules.specs.Values.{nobody}
+use Rattle.rules.specs.Model.{Place, Number, Thread, Model, inbox, thread, line, allPlaces, livesAt, live}
 use Rattle.saving.specs.declared.format.Row.{Row}
 
 -- ---- the table of editions
--- How many queues each edition has, by its number: edition 1 has ready and clock, edition 2 those of the 48 devices too. An edition that has none is not known.
+-- How many queues each edition has, by its number: edition 1 has ready and clock, editions 2 and 3 those of the 48 devices too. An edition
+-- that has none is not known.
 abbrev pub queuesBy : List ℕ
-queuesBy = 0 ∷ 2 ∷ queueCount ∷ []
+queuesBy = 0 ∷ 2 ∷ queueCount ∷ queueCount ∷ []
 
 unfoldable pub queuesOf : ℕ → ℕ
 queuesOf e = getD queuesBy e 0
 
--- the row of an edition: its number, and how many queues it has, which are the lines 0, 1, ..
+-- Which editions have each thread's parent: edition 3 does.
+abbrev pub parentsBy : List Bool
+parentsBy = false ∷ false ∷ false ∷ true ∷ []
+
+unfoldable pub parentsOf : ℕ → Bool
+parentsOf e = getD parentsBy e false
+
+-- the row of an edition: its number, how many queues it has, which are the lines 0, 1, .., and whether it has parents
 abbrev pub rowOf : ℕ → Row
-rowOf e = record { edition = e; queues = queuesOf e }
+rowOf e = record { edition = e; queues = queuesOf e; parents = parentsOf e }
 
 pub record Known (row : Row) : Type 0 where
   pub listed : row .queues ≡ queuesOf (row .edition)
+  pub parented : row .parents ≡ parentsOf (row .edition)
   pub some : 0 < row .queues
 
--- the newest edition, which a save writes, has every queue
+-- the newest edition, which a save writes, has every queue, and parents
 abbrev pub newest : Row
-newest = record { edition = 2; queues = queueCount }
+newest = record { edition = 3; queues = queueCount; parents = true }
 
--- What a row does not have is empty in a model that it can hold.
-abbrev pub Holds : Row → Model → Type 0
-Holds row m = (q : ℕ) → row .queues ≤ q → q < queueCount → line m q ≡ []
+-- In a model that a row can hold, the queues that it has not are empty, and nobody has a parent where it has no parents.
+pub record Holds (row : Row) (m : Model) : Type 0 where
+  pub queues : (q : ℕ) → row .queues ≤ q → q < queueCount → line m q ≡ []
+  pub parents : row .parents ≡ false → (p : Place) → thread m p .parent ≡ nobody
 
 -- ---- the lengths of the parts
 -- the head has four bytes, one for each queue, and two
@@ -52,12 +64,15 @@ shortestHead = 8
 abbrev pub entryLength : ℕ
 entryLength = 4
 
--- a body without its inbox: 13 bytes, of which the last is the inbox length
+-- a body without its inbox: 13 bytes, of which the last is the inbox length, and (from edition 3 on) the parent
 abbrev pub inboxLengthAt : ℕ
 inboxLengthAt = 12
 
-abbrev pub bodyLength : ℕ
-bodyLength = inboxLengthAt + 1
+abbrev pub parentAt : ℕ
+parentAt = 13
+
+abbrev pub bodyLength : Row → ℕ
+bodyLength row = parentAt + bit (row .parents)
 
 -- ---- the parts
 -- the live threads' places, by rising place
@@ -68,18 +83,22 @@ livePlaces m = only (livesAt m) allPlaces
 abbrev pub threadBytes : Thread → List ℕ
 threadBytes t = t .standing ∷ t .partner ∷ wordBytes (t .word) ++ (t .code ∷ t .who ∷ wordBytes (t .answer))
 
--- .. inbox length, inbox places. 13 bytes plus the inbox.
-abbrev pub bodyOf : Model → Place → List ℕ
-bodyOf m p = threadBytes (thread m p) ++ (length (line m (inbox p)) ∷ line m (inbox p))
+-- .. inbox length, (from edition 3 on) parent ..
+abbrev pub parentBytes : Row → Number → List ℕ
+parentBytes row n = cond (row .parents) (n ∷ []) []
 
-abbrev pub bodies : Model → List Place → List ℕ
-bodies m [] = []
-bodies m (p ∷ ps) = bodyOf m p ++ bodies m ps
+-- .. inbox places. 14 bytes plus the inbox, and 13 in editions 1 and 2.
+abbrev pub bodyOf : Row → Model → Place → List ℕ
+bodyOf row m p = threadBytes (thread m p) ++ (length (line m (inbox p)) ∷ parentBytes row (thread m p .parent) ++ line m (inbox p))
+
+abbrev pub bodies : Row → Model → List Place → List ℕ
+bodies row m [] = []
+bodies row m (p ∷ ps) = bodyOf row m p ++ bodies row m ps
 
 -- Contents: 4 bytes per live thread by rising place: place, number, offset of its body from the image's start (2). The first body starts at o.
-abbrev pub contents : Model → ℕ → List Place → List ℕ
-contents m o [] = []
-contents m o (p ∷ ps) = p ∷ thread m p .number ∷ twoBytes o ++ contents m (o + length (bodyOf m p)) ps
+abbrev pub contents : Row → Model → ℕ → List Place → List ℕ
+contents row m o [] = []
+contents row m o (p ∷ ps) = p ∷ thread m p .number ∷ twoBytes o ++ contents row m (o + length (bodyOf row m p)) ps
 
 -- the queues of a row, by rising line. (No abbrev: of a row of numerals it would be written out wherever it stands.)
 unfoldable pub queuesIn : Row → List ℕ
@@ -107,10 +126,10 @@ firstBody row m = headLength row + entryLength * length (livePlaces m) + length 
 
 -- all behind the head
 abbrev pub tail : Row → Model → List ℕ
-tail row m = contents m (firstBody row m) (livePlaces m) ++ (queues row m ++ bodies m (livePlaces m))
+tail row m = contents row m (firstBody row m) (livePlaces m) ++ (queues row m ++ bodies row m (livePlaces m))
 
 -- Head: edition, last number, running place or 255, live count, ready length, clock length, (from edition 2 on) 48 queue lengths after the clock length, and
--- the total length (2 bytes) after them. It has 8 bytes in edition 1, and 56 in edition 2.
+-- the total length (2 bytes) after them. It has 8 bytes in edition 1, and 56 from edition 2 on.
 abbrev pub head : Row → Model → List ℕ
 head row m = row .edition ∷ m .last ∷ m .running ∷ live m ∷ queueLengths row m ++ twoBytes (headLength row + length (tail row m))
 

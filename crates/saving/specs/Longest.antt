@@ -7,7 +7,7 @@ use mathlib.Core.Bool.{true, false}
 use native.Mathlib.Omega.{arith}
 use lib.ListN.{length, length-append}
 use Rattle.lists.specs.Sizes.{queueCount}
-use Rattle.lists.specs.Lists.{count, among, Distinct, upFrom}
+use Rattle.lists.specs.Lists.{bit, count, among, Distinct, upFrom}
 use Rattle.lists.specs.Laws.{by-test, not-head, not-tail, not-cons, not-append, is-head, is-tail}
 use Rattle.lists.specs.Counts.{count-append, among-none, among-some, count-distinct}
 use Rattle.lists.specs.Search.{upFrom-distinct, upFrom-within}
@@ -15,17 +15,17 @@ use Rattle.lists.specs.Without.{pigeon}
 use Rattle.lists.specs.Only.{only-distinct, only-few, only-tally}
 use Rattle.lists.specs.Tables.{bit-low, tally-ext}
 use Rattle.lists.specs.Bytes.{twoBytes}
-use Rattle.rules.specs.Model.{Place, places, Model, inbox, thread, line, allPlaces, livesAt, live}
+use Rattle.rules.specs.Model.{Place, Number, places, Model, inbox, thread, line, allPlaces, livesAt, live}
 use Rattle.rules.specs.Consistent.{belongs, OldConsistent, Consistent}
 use Rattle.order.specs.Sound.{Sound, old-sound}
 use Rattle.order.specs.Stood.{stands-once, no-place}
-use Rattle.saving.specs.Format.{newest, headLength, entryLength, bodyLength, livePlaces, bodyOf, bodies, contents, queuesIn, joined, queueLengths, queues, firstBody, tail, head, encodeAs, encode}
+use Rattle.saving.specs.Format.{newest, headLength, entryLength, bodyLength, livePlaces, parentBytes, bodyOf, bodies, contents, queuesIn, joined, queueLengths, queues, firstBody, tail, head, encodeAs, encode}
 use Rattle.saving.specs.Queues.{inbox-at, lengths-length, joined-append}
 use Rattle.saving.specs.declared.format.Row.{Row}
 
--- The longest is 632 bytes (document 01 has 584, for edition 1): every place lives and waits somewhere.
+-- The longest is 664 bytes (document 01 has 584, for edition 1): every place lives and waits somewhere.
 abbrev pub longestImage : ℕ
-longestImage = headLength newest + (entryLength + bodyLength + 1) * places
+longestImage = headLength newest + (entryLength + bodyLength newest + 1) * places
 
 -- ---- the live places
 -- the live count is how many there are
@@ -46,28 +46,31 @@ live-few m = only-few (livesAt m) 0 places
 abbrev pub inboxes : Model → List Place → List Place
 inboxes m ps = joined (line m) (map inbox ps)
 
-pub body-length : (m : Model) (p : Place) → length (bodyOf m p) ≡ bodyLength + length (line m (inbox p))
-body-length m p = simp length-append (omega arith)
+pub parent-length : (row : Row) (n : Number) → length (parentBytes row n) ≡ bit (row .parents)
+parent-length row n = by-test (row .parents) (λ t. rw t) (λ t. rw t)
 
-pub bodies-length : (m : Model) (ps : List Place) → length (bodies m ps) ≡ bodyLength * length ps + length (inboxes m ps)
-bodies-length m [] = refl
-bodies-length m (p ∷ ps) =
-    let i = bodies-length m ps in
-    let a = length-append (bodyOf m p) (bodies m ps) in
-    let b = body-length m p in
+pub body-length : (row : Row) (m : Model) (p : Place) → length (bodyOf row m p) ≡ bodyLength row + length (line m (inbox p))
+body-length row m p = let a = parent-length row (thread m p .parent) in simp length-append (omega arith)
+
+pub bodies-length : (row : Row) (m : Model) (ps : List Place) → length (bodies row m ps) ≡ bodyLength row * length ps + length (inboxes m ps)
+bodies-length row m [] = omega arith
+bodies-length row m (p ∷ ps) =
+    let i = bodies-length row m ps in
+    let a = length-append (bodyOf row m p) (bodies row m ps) in
+    let b = body-length row m p in
     let c = length-append (line m (inbox p)) (inboxes m ps) in
     omega arith
 
-pub contents-length : (m : Model) (o : ℕ) (ps : List Place) → length (contents m o ps) ≡ entryLength * length ps
-contents-length m o [] = refl
-contents-length m o (p ∷ ps) = let i = contents-length m (o + length (bodyOf m p)) ps in omega arith
+pub contents-length : (row : Row) (m : Model) (o : ℕ) (ps : List Place) → length (contents row m o ps) ≡ entryLength * length ps
+contents-length row m o [] = refl
+contents-length row m o (p ∷ ps) = let i = contents-length row m (o + length (bodyOf row m p)) ps in omega arith
 
 -- the total: what the offset has come to behind the last body
-pub tail-length : (row : Row) (m : Model) → headLength row + length (tail row m) ≡ firstBody row m + length (bodies m (livePlaces m))
+pub tail-length : (row : Row) (m : Model) → headLength row + length (tail row m) ≡ firstBody row m + length (bodies row m (livePlaces m))
 tail-length row m =
-    let a = length-append (contents m (firstBody row m) (livePlaces m)) (queues row m ++ bodies m (livePlaces m)) in
-    let b = length-append (queues row m) (bodies m (livePlaces m)) in
-    let c = contents-length m (firstBody row m) (livePlaces m) in
+    let a = length-append (contents row m (firstBody row m) (livePlaces m)) (queues row m ++ bodies row m (livePlaces m)) in
+    let b = length-append (queues row m) (bodies row m (livePlaces m)) in
+    let c = contents-length row m (firstBody row m) (livePlaces m) in
     omega arith
 
 pub head-length : (row : Row) (m : Model) → length (head row m) ≡ headLength row
@@ -151,11 +154,16 @@ module _ (m : Model) (S : Sound m) where
       omega arith
 
 -- ---- the longest
+-- no body is longer than one of the newest edition
+bodies-few : (row : Row) (n : ℕ) → bodyLength row * n ≤ bodyLength newest * n
+bodies-few row n = by-test (row .parents) (λ t. rw t (omega arith)) (λ t. rw t (omega arith))
+
 pub longest-as : (row : Row) (m : Model) → row .queues ≤ queueCount → OldConsistent m → length (encodeAs row m) ≤ longestImage
 longest-as row m h C =
     let a = encode-length row m in
     let b = tail-length row m in
-    let c = bodies-length m (livePlaces m) in
+    let c = bodies-length row m (livePlaces m) in
+    let d = bodies-few row (length (livePlaces m)) in
     let e = live-few m in
     let f = queues-few m (old-sound m C) row h in
     omega arith

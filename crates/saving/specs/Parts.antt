@@ -26,14 +26,14 @@ unfoldable pub livesFrom : Model → Place → List Place
 livesFrom m p = only (livesAt m) (upFrom p (places - p))
 
 -- the parts of the arrays' image that the contracts name: the body of p, if it lives; all bodies; the contents, for a first body at o; all behind the head
-abbrev pub bodyIn : List ℕ → List ℕ → List ℕ → Place → List ℕ
-bodyIn b w l p = bodies (held b w l) (here (held b w l) p)
+abbrev pub bodyIn : Row → List ℕ → List ℕ → List ℕ → Place → List ℕ
+bodyIn row b w l p = bodies row (held b w l) (here (held b w l) p)
 
-abbrev pub bodiesIn : List ℕ → List ℕ → List ℕ → List ℕ
-bodiesIn b w l = bodies (held b w l) (livePlaces (held b w l))
+abbrev pub bodiesIn : Row → List ℕ → List ℕ → List ℕ → List ℕ
+bodiesIn row b w l = bodies row (held b w l) (livePlaces (held b w l))
 
-abbrev pub contentsIn : List ℕ → List ℕ → List ℕ → ℕ → List ℕ
-contentsIn b w l o = contents (held b w l) o (livePlaces (held b w l))
+abbrev pub contentsIn : Row → List ℕ → List ℕ → List ℕ → ℕ → List ℕ
+contentsIn row b w l o = contents row (held b w l) o (livePlaces (held b w l))
 
 abbrev pub tailIn : Row → List ℕ → List ℕ → List ℕ → List ℕ
 tailIn row b w l = tail row (held b w l)
@@ -52,26 +52,26 @@ unfolding livesFrom
 lives-end m p h = let e : places - p ≡ 0 = omega arith in ap (λ (k : ℕ). only (livesAt m) (upFrom p k)) e
 
 -- ---- one part behind the other
-pub bodies-append : (m : Model) (xs ys : List Place) → bodies m (xs ++ ys) ≡ bodies m xs ++ bodies m ys
-bodies-append m [] ys = refl
-bodies-append m (x ∷ xs) ys = ap (λ (t : List ℕ). bodyOf m x ++ t) (bodies-append m xs ys) ∙ sym (append-assoc (bodyOf m x) (bodies m xs) (bodies m ys))
+pub bodies-append : (row : Row) (m : Model) (xs ys : List Place) → bodies row m (xs ++ ys) ≡ bodies row m xs ++ bodies row m ys
+bodies-append row m [] ys = refl
+bodies-append row m (x ∷ xs) ys = ap (λ (t : List ℕ). bodyOf row m x ++ t) (bodies-append row m xs ys) ∙ sym (append-assoc (bodyOf row m x) (bodies row m xs) (bodies row m ys))
 
-pub contents-append : (m : Model) (o : ℕ) (xs ys : List Place) → contents m o (xs ++ ys) ≡ contents m o xs ++ contents m (o + length (bodies m xs)) ys
-contents-append m o [] ys = let e : o + 0 ≡ o = omega arith in rw e
-contents-append m o (x ∷ xs) ys =
-    let k = length-append (bodyOf m x) (bodies m xs) in
-    let e : o + length (bodyOf m x ++ bodies m xs) ≡ o + length (bodyOf m x) + length (bodies m xs) = omega arith in
-    rw (e, contents-append m (o + length (bodyOf m x)) xs ys)
+pub contents-append : (row : Row) (m : Model) (o : ℕ) (xs ys : List Place) → contents row m o (xs ++ ys) ≡ contents row m o xs ++ contents row m (o + length (bodies row m xs)) ys
+contents-append row m o [] ys = let e : o + 0 ≡ o = omega arith in rw e
+contents-append row m o (x ∷ xs) ys =
+    let k = length-append (bodyOf row m x) (bodies row m xs) in
+    let e : o + length (bodyOf row m x ++ bodies row m xs) ≡ o + length (bodyOf row m x) + length (bodies row m xs) = omega arith in
+    rw (e, contents-append row m (o + length (bodyOf row m x)) xs ys)
 
 -- ---- they are those of the threads and the lines
-module _ (y x : ℕ) (b w l : List ℕ) where
-  bodies-same : (ps : List Place) → bodies (modelOf y x b w l) ps ≡ bodies (held b w l) ps
+module _ (y x : ℕ) (b w l : List ℕ) (row : Row) where
+  bodies-same : (ps : List Place) → bodies row (modelOf y x b w l) ps ≡ bodies row (held b w l) ps
   bodies-same [] = refl
-  bodies-same (p ∷ ps) = ap (λ (t : List ℕ). bodyOf (held b w l) p ++ t) (bodies-same ps)
+  bodies-same (p ∷ ps) = ap (λ (t : List ℕ). bodyOf row (held b w l) p ++ t) (bodies-same ps)
 
-  contents-same : (o : ℕ) (ps : List Place) → contents (modelOf y x b w l) o ps ≡ contents (held b w l) o ps
+  contents-same : (o : ℕ) (ps : List Place) → contents row (modelOf y x b w l) o ps ≡ contents row (held b w l) o ps
   contents-same o [] = refl
-  contents-same o (p ∷ ps) = rw (contents-same (o + length (bodyOf (held b w l) p)) ps)
+  contents-same o (p ∷ ps) = rw (contents-same (o + length (bodyOf row (held b w l) p)) ps)
 
-  pub tail-same : (row : Row) → tail row (modelOf y x b w l) ≡ tail row (held b w l)
-  tail-same row = rw (contents-same (firstBody row (held b w l)) (livePlaces (held b w l)), bodies-same (livePlaces (held b w l)))
+  pub tail-same : tail row (modelOf y x b w l) ≡ tail row (held b w l)
+  tail-same = rw (contents-same (firstBody row (held b w l)) (livePlaces (held b w l)), bodies-same (livePlaces (held b w l)))

@@ -28,10 +28,10 @@ pub record Written (row : Row) (m : Model) (s t : List ℕ) (r : ℕ) : Type 0 w
   pub bytes : t ≡ encodeAs row m ++ drop r s
 
 -- what the contents ask for
-pub record PutsContents (b w l s : List ℕ) (at o : ℕ) : Type 0 where
+pub record PutsContents (row : Row) (b w l s : List ℕ) (at o : ℕ) : Type 0 where
   pub lines : Tidy places lineCount l
-  pub room : at + length (contentsIn b w l o) ≤ length s
-  pub low : o + length (bodiesIn b w l) ≤ longestImage
+  pub room : at + length (contentsIn row b w l o) ≤ length s
+  pub low : o + length (bodiesIn row b w l) ≤ longestImage
 
 -- and all behind the head
 pub record PutsTail (row : Row) (b w l s : List ℕ) (o : ℕ) : Type 0 where
@@ -64,35 +64,35 @@ module _ (row : Row) (h : row .queues ≤ queueCount) (b w l : List ℕ) where
 
 -- ---- behind the head: contents, queues, bodies, one after the other
 module _ {row : Row} {b w l s : List ℕ} {o : ℕ} (k : PutsTail row b w l s o) where
-  tail-is : tailIn row b w l ≡ contentsIn b w l o ++ (waitingIn row l ++ bodiesIn b w l)
+  tail-is : tailIn row b w l ≡ contentsIn row b w l o ++ (waitingIn row l ++ bodiesIn row b w l)
   tail-is = rw (← k .first, queues-are row (k .few) b w l)
 
-  pub tail-contents : PutsContents b w l s (headLength row) o
+  pub tail-contents : PutsContents row b w l s (headLength row) o
   tail-contents = record {
     lines = k .lines;
     room =
         let a = ap length tail-is in
-        let c = length-append (contentsIn b w l o) (waitingIn row l ++ bodiesIn b w l) in
+        let c = length-append (contentsIn row b w l o) (waitingIn row l ++ bodiesIn row b w l) in
         let h = k .room in
         omega arith;
     low = let a = tail-length row (held b w l) in let c = k .first in let h = k .low in omega arith;
   }
 
-  start : Going (laid s (headLength row) (tailIn row b w l)) (headLength row + length (tailIn row b w l)) s (headLength row) (contentsIn b w l o ++ (waitingIn row l ++ bodiesIn b w l))
+  start : Going (laid s (headLength row) (tailIn row b w l)) (headLength row + length (tailIn row b w l)) s (headLength row) (contentsIn row b w l o ++ (waitingIn row l ++ bodiesIn row b w l))
   start = going-by (going-start s (headLength row) (tailIn row b w l) (k .room)) tail-is
 
-  module _ {t : List ℕ} {r : ℕ} (p₁ : Wrote s (headLength row) (contentsIn b w l o) t r) where
+  module _ {t : List ℕ} {r : ℕ} (p₁ : Wrote s (headLength row) (contentsIn row b w l o) t r) where
     pub queues-room : r + length (waitingIn row l) ≤ length t
-    queues-room = going-room (waitingIn row l) (bodiesIn b w l) (going-more start p₁)
+    queues-room = going-room (waitingIn row l) (bodiesIn row b w l) (going-more start p₁)
 
     module _ {u : List ℕ} {v : ℕ} (p₂ : Wrote t r (waitingIn row l) u v) where
-      left : Going (laid s (headLength row) (tailIn row b w l)) (headLength row + length (tailIn row b w l)) u v (bodiesIn b w l)
+      left : Going (laid s (headLength row) (tailIn row b w l)) (headLength row + length (tailIn row b w l)) u v (bodiesIn row b w l)
       left = going-more (going-more start p₁) p₂
 
-      pub bodies-room : v + length (bodiesIn b w l) ≤ length u
+      pub bodies-room : v + length (bodiesIn row b w l) ≤ length u
       bodies-room = let a = left .ends in let c = left .room in omega arith
 
-      pub tail-whole : {z : List ℕ} {e : ℕ} → Wrote u v (bodiesIn b w l) z e → Wrote s (headLength row) (tailIn row b w l) z e
+      pub tail-whole : {z : List ℕ} {e : ℕ} → Wrote u v (bodiesIn row b w l) z e → Wrote s (headLength row) (tailIn row b w l) z e
       tail-whole p₃ = going-last left p₃
 
 -- ---- the head: four bytes, the lengths, and the total

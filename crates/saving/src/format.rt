@@ -1,19 +1,24 @@
 // The numbers of the image's format, for those who write it and those who read it: the table of its editions, how long its parts are, and where what stands
 // in them.
 ghost use mathlib.Core.Path.{_≡_};
-ghost use Rattle.saving.specs.Format.{rowOf, newest as newestRow, totalAt, headLength};
+ghost use Prim.Native.Nat.{_<_};
+ghost use Rattle.saving.specs.Format.{rowOf, newest as newestRow, totalAt, headLength, bodyLength};
 
-// A row of the table of editions: what an edition has of the format. Its queues are the lines 0, 1, ..
+// A row of the table of editions: what an edition has of the format. Its queues are the lines 0, 1, ..; its bodies have a parent, or not.
 pub struct Row {
     pub edition: u8,
     pub queues: u8,
+    pub parents: bool,
 }
 
 // The newest edition, which is the last that the table has.
-pub const NEWEST: u8 = 2;
+pub const NEWEST: u8 = 3;
 
-// How many queues each edition has, by its number: edition 1 has ready and clock, edition 2 all. An edition that has none is not known.
-const QUEUES_BY: [u8; NEWEST as usize + 1] = [0, 2, lines::QUEUES as u8];
+// How many queues each edition has, by its number: edition 1 has ready and clock, those behind it all. An edition that has none is not known.
+const QUEUES_BY: [u8; NEWEST as usize + 1] = [0, 2, lines::QUEUES as u8, lines::QUEUES as u8];
+
+// Which editions have each thread's parent.
+const PARENTS_BY: [bool; NEWEST as usize + 1] = [false, false, false, true];
 
 // Head: edition, last number, running place or 255, live count, a length for each queue, total length (2 bytes).
 pub const EDITION_AT: usize = 0;
@@ -38,8 +43,11 @@ pub const NUMBER_AT: usize = 1;
 
 pub const OFFSET_AT: usize = 2;
 
-// A body, 13 bytes and its inbox: standing, partner, word (4), answer code, who, answer word (4), inbox length, inbox places.
+// A body, 13 bytes, a parent where the edition has it, and its inbox: standing, partner, word (4), answer code, who, answer word (4), inbox length, parent,
+// inbox places.
 pub const BODY: usize = 13;
+
+pub const PARENT: usize = 1;
 
 pub const PARTNER_AT: usize = 1;
 
@@ -53,7 +61,9 @@ pub const ANSWER_AT: usize = 8;
 
 pub const INBOX_LENGTH_AT: usize = 12;
 
-// The row of an edition, with no queues where it is not known.
+pub const PARENT_AT: usize = 13;
+
+// The row of an edition, with no queues and no parents where it is not known.
 pub fn row_of(edition: u8) -> Row
     ensures { λ r. ⌜ r ≡ rowOf edition ⌝ }
 {
@@ -61,15 +71,17 @@ pub fn row_of(edition: u8) -> Row
         return Row {
             edition: edition,
             queues: 0,
+            parents: false,
         };
     }
     Row {
         edition: edition,
         queues: QUEUES_BY[edition as usize],
+        parents: PARENTS_BY[edition as usize],
     }
 }
 
-// The newest edition has every queue.
+// The newest edition has every queue, and parents.
 pub fn newest() -> Row
     ensures { λ r. ⌜ r ≡ newestRow ⌝ }
 {
@@ -88,4 +100,14 @@ pub fn head_length(row: Row) -> usize
     ensures { λ r. ⌜ r ≡ headLength row ⌝ }
 {
     total_at(row) + TOTAL
+}
+
+// How long a body is without its inbox.
+pub fn body_length(row: Row) -> usize
+    ensures { λ r. ⌜ (r ≡ bodyLength row) × (r < 256) ⌝ }
+{
+    if row.parents {
+        return BODY + PARENT;
+    }
+    BODY
 }

@@ -2,16 +2,17 @@
 // Each function that writes gives the position behind what it wrote, and leaves every other byte as it was (`Wrote`).
 ghost use mathlib.Core.Path.{_≡_};
 ghost use mathlib.Core.Bool.{false};
-ghost use mathlib.Core.List.{[], _∷_};
+ghost use mathlib.Core.List.{[], _∷_, _++_};
 ghost use Prim.Native.Nat.{_+_, _*_, _%_, _≤_, _<_};
 ghost use lib.ListN.{length};
 ghost use Rattle.lists.specs.Sizes.{places, queueCount, lineCount};
+ghost use Rattle.lists.specs.Lists.{bit};
 ghost use Rattle.lists.specs.Bytes.{twoBytes, wordBytes};
 ghost use Rattle.lists.specs.Laid.{Wrote};
 ghost use Rattle.lines.specs.Lines.{lineOf, Tidy};
 ghost use Rattle.table.specs.Cells.{asThread, shown, StandsBy};
 ghost use Rattle.nucleus.specs.View.{Consists};
-ghost use Rattle.saving.specs.Format.{headLength, entryLength, threadBytes};
+ghost use Rattle.saving.specs.Format.{headLength, entryLength, threadBytes, parentBytes};
 ghost use Rattle.saving.specs.Longest.{longestImage};
 ghost use Rattle.saving.specs.Parts.{held, bodyIn, bodiesIn, contentsIn, tailIn};
 ghost use Rattle.saving.specs.Entries.{EntryPut, PutsEntry};
@@ -20,6 +21,7 @@ ghost use Rattle.saving.specs.Save.{Saves};
 use format::BODY;
 use format::ENTRY;
 use format::LENGTHS_AT;
+use format::PARENT;
 use format::Row;
 use format::TOTAL;
 use lines::Links;
@@ -35,7 +37,10 @@ use table::Words;
 pub mod format;
 
 // The longest image: that of the newest edition, where every place lives and waits somewhere.
-pub const LONGEST: usize = LENGTHS_AT + lines::QUEUES + TOTAL + (ENTRY + BODY + 1) * lines::PLACES;
+pub const LONGEST: usize = LENGTHS_AT
+    + lines::QUEUES
+    + TOTAL
+    + (ENTRY + BODY + PARENT + 1) * lines::PLACES;
 
 // The low byte of a number.
 fn low(x: u32) -> u8
@@ -113,7 +118,7 @@ fn entry(p: Place, n: Number, offset: u32) -> [u8; 4]
     [p.0, n.0, a, b]
 }
 
-// Writes a thread without its inbox.
+// Writes a thread without its parent and its inbox.
 fn put_thread(out: &mut [u8], at: usize, t: Thread) -> usize
     requires { ⌜ at + length (threadBytes (asThread t)) ≤ length (now out) ⌝ }
     ensures { λ r. ⌜ Wrote (now (out .entry)) at (threadBytes (asThread t)) (now (out .exit)) r ⌝ }
@@ -125,28 +130,47 @@ fn put_thread(out: &mut [u8], at: usize, t: Thread) -> usize
     put(out, next, &told)
 }
 
-// Writes an inbox, line q: its length, and its places. The places come first, and tell the length.
-fn put_inbox(out: &mut [u8], at: usize, l: &Links, q: u8) -> usize
-    requires { ⌜ Tidy places lineCount (now l) × (q < lineCount) × (at + 1 + length (lineOf places (now l) q) ≤ length (now out)) ⌝ }
-    ensures { λ r. ⌜ Wrote (now (out .entry)) at (length (lineOf places (now (l .entry)) q) ∷ lineOf places (now (l .entry)) q) (now (out .exit)) r ⌝ }
+// Writes the parent n, if the row has it.
+fn put_parent(out: &mut [u8], at: usize, row: Row, n: Number) -> usize
+    requires { ⌜ at + length (parentBytes row (n .0)) ≤ length (now out) ⌝ }
+    ensures { λ r. ⌜ Wrote (now (out .entry)) at (parentBytes row (n .0)) (now (out .exit)) r ⌝ }
 {
-    let first = at + 1;
-    let end = put_line(out, first, l, q);
-    out[at] = (end - first) as u8;
-    end
+    if row.parents {
+        out[at] = n.0;
+        return at + PARENT;
+    }
+    at
+}
+
+// Writes an inbox, line q: its length, the parent n if the row has it, and its places.
+fn put_inbox(out: &mut [u8], at: usize, row: Row, n: Number, l: &Links, q: u8) -> usize
+    requires { ⌜ Tidy places lineCount (now l) × (q < lineCount) × (at + 1 + bit (row .parents) + length (lineOf places (now l) q) ≤ length (now out)) ⌝ }
+    ensures { λ r. ⌜ Wrote (now (out .entry)) at (length (lineOf places (now (l .entry)) q) ∷ parentBytes row (n .0) ++ lineOf places (now (l .entry)) q) (now (out .exit)) r ⌝ }
+{
+    out[at] = measure(l, q);
+    let first = put_parent(out, at + 1, row, n);
+    put_line(out, first, l, q)
 }
 
 // Writes the body of the place p, if a thread lives there.
-fn put_body(out: &mut [u8], at: usize, b: &Blocks, w: &Words, l: &Links, p: Place) -> usize
-    requires { ⌜ Tidy places lineCount (now l) × (p .0 < places) × (at + length (bodyIn (now b) (now w) (now l) (p .0)) ≤ length (now out)) ⌝ }
-    ensures { λ r. ⌜ Wrote (now (out .entry)) at (bodyIn (now (b .entry)) (now (w .entry)) (now (l .entry)) (p .0)) (now (out .exit)) r ⌝ }
+fn put_body(
+    out: &mut [u8],
+    at: usize,
+    row: Row,
+    b: &Blocks,
+    w: &Words,
+    l: &Links,
+    p: Place,
+) -> usize
+    requires { ⌜ Tidy places lineCount (now l) × (p .0 < places) × (at + length (bodyIn row (now b) (now w) (now l) (p .0)) ≤ length (now out)) ⌝ }
+    ensures { λ r. ⌜ Wrote (now (out .entry)) at (bodyIn row (now (b .entry)) (now (w .entry)) (now (l .entry)) (p .0)) (now (out .exit)) r ⌝ }
 {
     let t = table::read(b, w, p);
     if t.standing == rules::EMPTY {
         return at;
     }
     let next = put_thread(out, at, t);
-    put_inbox(out, next, l, table::INBOX_LINES + p.0)
+    put_inbox(out, next, row, t.parent, l, table::INBOX_LINES + p.0)
 }
 
 // Where the next entry of the contents goes, and where the body that it names starts.
@@ -156,9 +180,17 @@ struct Cursor {
 }
 
 // Writes the entry of the place p, if a thread lives there.
-fn put_entry(out: &mut [u8], c: Cursor, b: &Blocks, w: &Words, l: &Links, p: Place) -> Cursor
-    requires { ⌜ PutsEntry (now b) (now w) (now l) (p .0) (now out) (c .at) (c .body) ⌝ }
-    ensures { λ r. ⌜ EntryPut (held (now (b .entry)) (now (w .entry)) (now (l .entry))) (p .0) (now (out .entry)) (c .at) (c .body) (now (out .exit)) (r .at) (r .body) ⌝ }
+fn put_entry(
+    out: &mut [u8],
+    c: Cursor,
+    row: Row,
+    b: &Blocks,
+    w: &Words,
+    l: &Links,
+    p: Place,
+) -> Cursor
+    requires { ⌜ PutsEntry row (now b) (now w) (now l) (p .0) (now out) (c .at) (c .body) ⌝ }
+    ensures { λ r. ⌜ EntryPut row (held (now (b .entry)) (now (w .entry)) (now (l .entry))) (p .0) (now (out .entry)) (c .at) (c .body) (now (out .exit)) (r .at) (r .body) ⌝ }
 {
     let t = table::read(b, w, p);
     if t.standing == rules::EMPTY {
@@ -169,14 +201,22 @@ fn put_entry(out: &mut [u8], c: Cursor, b: &Blocks, w: &Words, l: &Links, p: Pla
     let n = measure(l, table::INBOX_LINES + p.0);
     Cursor {
         at: next,
-        body: c.body + BODY as u32 + wide(n),
+        body: c.body + format::body_length(row) as u32 + wide(n),
     }
 }
 
 // Writes the contents at a position, for a first body at `first`.
-fn put_contents(out: &mut [u8], at: usize, b: &Blocks, w: &Words, l: &Links, first: u32) -> usize
-    requires { ⌜ PutsContents (now b) (now w) (now l) (now out) at first ⌝ }
-    ensures { λ r. ⌜ Wrote (now (out .entry)) at (contentsIn (now (b .entry)) (now (w .entry)) (now (l .entry)) first) (now (out .exit)) r ⌝ }
+fn put_contents(
+    out: &mut [u8],
+    at: usize,
+    row: Row,
+    b: &Blocks,
+    w: &Words,
+    l: &Links,
+    first: u32,
+) -> usize
+    requires { ⌜ PutsContents row (now b) (now w) (now l) (now out) at first ⌝ }
+    ensures { λ r. ⌜ Wrote (now (out .entry)) at (contentsIn row (now (b .entry)) (now (w .entry)) (now (l .entry)) first) (now (out .exit)) r ⌝ }
 {
     let mut c = Cursor {
         at: at,
@@ -184,21 +224,21 @@ fn put_contents(out: &mut [u8], at: usize, b: &Blocks, w: &Words, l: &Links, fir
     };
     let mut p: u8 = 0;
     while p < lines::PLACES as u8 {
-        c = put_entry(out, c, b, w, l, Place(p));
+        c = put_entry(out, c, row, b, w, l, Place(p));
         p += 1;
     }
     c.at
 }
 
 // Writes the bodies.
-fn put_bodies(out: &mut [u8], at: usize, b: &Blocks, w: &Words, l: &Links) -> usize
-    requires { ⌜ Tidy places lineCount (now l) × (at + length (bodiesIn (now b) (now w) (now l)) ≤ length (now out)) ⌝ }
-    ensures { λ r. ⌜ Wrote (now (out .entry)) at (bodiesIn (now (b .entry)) (now (w .entry)) (now (l .entry))) (now (out .exit)) r ⌝ }
+fn put_bodies(out: &mut [u8], at: usize, row: Row, b: &Blocks, w: &Words, l: &Links) -> usize
+    requires { ⌜ Tidy places lineCount (now l) × (at + length (bodiesIn row (now b) (now w) (now l)) ≤ length (now out)) ⌝ }
+    ensures { λ r. ⌜ Wrote (now (out .entry)) at (bodiesIn row (now (b .entry)) (now (w .entry)) (now (l .entry))) (now (out .exit)) r ⌝ }
 {
     let mut next = at;
     let mut p: u8 = 0;
     while p < lines::PLACES as u8 {
-        next = put_body(out, next, b, w, l, Place(p));
+        next = put_body(out, next, row, b, w, l, Place(p));
         p += 1;
     }
     next
@@ -224,9 +264,9 @@ fn put_tail(out: &mut [u8], row: Row, b: &Blocks, w: &Words, l: &Links, first: u
     ensures { λ r. ⌜ Wrote (now (out .entry)) (headLength row) (tailIn row (now (b .entry)) (now (w .entry)) (now (l .entry))) (now (out .exit)) r ⌝ }
 {
     let at = format::head_length(row);
-    let queues = put_contents(out, at, b, w, l, first);
+    let queues = put_contents(out, at, row, b, w, l, first);
     let next = put_queues(out, queues, row, l);
-    put_bodies(out, next, b, w, l)
+    put_bodies(out, next, row, b, w, l)
 }
 
 // Where the first body starts: behind the head, an entry for each that lives, and all that wait in a row's queues.

@@ -1,6 +1,7 @@
 // What the shift had after each recorded event, kept as it went by: the position in the log, the image, and what waited at each place. What a cut log
 // brings back is compared with this, and not with a second replay.
 ghost use Prim.Native.Nat.{_^_, _<_};
+use super::crew;
 use super::pit;
 use nucleus::State;
 use rules::Place;
@@ -63,11 +64,12 @@ pub fn at_device(wait: u64) -> bool {
     wait / 72057594037927936 == rules::AT_DEVICE as u64
 }
 
-// How many loads wait, and how many drivers at the scale and at the keypad.
+// How many loads wait, how many drivers at the scale and at the keypad, and how many displays there are.
 pub struct Waiters {
     pub loads: u32,
     pub scale: u32,
     pub keypad: u32,
+    pub displays: u32,
 }
 
 pub fn waiting(s: State) -> Waiters {
@@ -75,6 +77,7 @@ pub fn waiting(s: State) -> Waiters {
         loads: 0,
         scale: 0,
         keypad: 0,
+        displays: 0,
     };
     let mut p: u8 = 0;
     while p < lines::PLACES as u8 {
@@ -86,6 +89,10 @@ pub fn waiting(s: State) -> Waiters {
 
 // What the thread adds to them.
 fn with(mut w: Waiters, t: Thread) -> Waiters {
+    if crew::display(t) {
+        w.displays = more(w.displays);
+        return w;
+    }
     if loads(t.standing) {
         w.loads = more(w.loads);
         return w;

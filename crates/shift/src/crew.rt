@@ -1,4 +1,4 @@
-// Who does what: from the state and a throw of the dice, the next event, as the drivers, the radio and the pit's devices would make it.
+// Who does what: from the state and a throw of the dice, the next event, as the drivers, their displays, the radio and the pit's devices would make it.
 use super::pit;
 use nucleus::State;
 use rules::Choice;
@@ -15,12 +15,12 @@ const WRONG: u8 = 200;
 
 const PLACES: u8 = lines::PLACES as u8;
 
-// In so many turns there are about one slice end, one tick, one driver who signs on or off, and five interrupts.
+// In so many turns there are about one slice end, one tick, one driver who signs on or off or starts a display, and five interrupts.
 const TURNS: u32 = 32;
 
 const INTERRUPTS: u32 = 5;
 
-// A driver who signs off is picked among so many places. At an empty one a driver signs on, so about half of them stay filled.
+// A driver who signs off is picked among so many places. At an empty one somebody signs on or is started, so about half of them stay filled.
 const PICKED: u32 = 24;
 
 // The next throw of the dice, 0 to 65,536. The same seed gives the same shift.
@@ -69,26 +69,37 @@ fn outside(dice: u32) -> Event {
     pit::raises(dice / 4, throw(dice / 4))
 }
 
-// The driver at a place signs off, waiting or not; at an empty place one signs on. The radio stays.
+// Is this a display: a thread that a driver started, or another display did? A driver signs on while the radio runs, or nobody.
+pub fn display(t: Thread) -> bool {
+    let parent = t.parent.0;
+    (parent != rules::NOBODY) & (parent != RADIO)
+}
+
+// The driver at a place signs off, waiting or not, and takes along the displays that it started. At an empty place a driver signs on, or whoever runs, if it
+// is not the radio, starts a display. The radio stays, and a display goes with its driver only.
 fn signs(s: State, p: u32) -> Event {
     let t = s.thread(Place((p % 256) as u8));
     let n = t.number;
     if n.0 == rules::NOBODY {
         return Event::Create;
     }
-    if n.0 == RADIO {
+    if (n.0 == RADIO) | display(t) {
         return Event::SliceEnd;
     }
     Event::End { thread: n }
 }
 
-// What the running thread does.
+// What the running thread does. A display shows what there is, and rests until the next tick.
 fn acts(s: State, n: Number, dice: u32) -> Event {
     if n.0 == RADIO {
         return radio(s, dice);
     }
     let p = s.running;
-    driver(s.thread(p), dice)
+    let t = s.thread(p);
+    if display(t) {
+        return Event::WaitClock;
+    }
+    driver(t, dice)
 }
 
 // A driver's answer says what is next: the weight, where it comes from the scale. Any other, as the radio's, means that it is to be weighed again.
@@ -109,7 +120,7 @@ fn sends(weight: u32, dice: u32) -> Event {
     }
 }
 
-// One who was not goes to the scale. Now and then it rests, goes to a device that is none, or types first.
+// One who was not goes to the scale. Now and then it rests, goes to a device that is none, types first, or starts a display.
 fn weighs(dice: u32) -> Event {
     let d = dice % 16;
     if d == 0 {
@@ -124,6 +135,9 @@ fn weighs(dice: u32) -> Event {
         return Event::WaitDevice {
             device: pit::keypad(),
         };
+    }
+    if d < 6 {
+        return Event::Create;
     }
     Event::WaitDevice {
         device: pit::scale(),

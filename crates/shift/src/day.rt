@@ -6,7 +6,7 @@ use nucleus::State;
 use rules::Event;
 use rules::kinds;
 
-pub const SEED: u32 = 2000;
+pub const SEED: u32 = 2030;
 
 // So many drivers sign on first, with the radio.
 pub const DRIVERS: usize = 12;
@@ -14,13 +14,16 @@ pub const DRIVERS: usize = 12;
 // So many events come before the image, the signing on included.
 pub const BEFORE: usize = 100;
 
-// Drivers who were weighed, and who typed; loads sent, answered, and gone because their driver signed off while they waited; and events that were refused.
+// Drivers who were weighed, and who typed; loads sent, answered, and gone because their driver signed off while they waited; displays started, and gone with
+// the driver who started them; and events that were refused.
 pub struct Counts {
     pub weighed: u32,
     pub typed: u32,
     pub sent: u32,
     pub answered: u32,
     pub withdrawn: u32,
+    pub started: u32,
+    pub taken: u32,
     pub refused: u32,
 }
 
@@ -48,6 +51,11 @@ fn counted(mut c: Counts, kind: u8, code: u8, was: Waiters, now: Waiters) -> Cou
     }
     if kind == kinds::END {
         c.withdrawn = left(c.withdrawn, was.loads, now.loads);
+        c.taken = left(c.taken, was.displays, now.displays);
+        return c;
+    }
+    if kind == kinds::CREATE {
+        c.started = left(c.started, now.displays, was.displays);
         return c;
     }
     if kind == kinds::INTERRUPT {
@@ -58,7 +66,7 @@ fn counted(mut c: Counts, kind: u8, code: u8, was: Waiters, now: Waiters) -> Cou
     c
 }
 
-// The count with those who no longer wait.
+// The count with those who are no longer there.
 fn left(n: u32, was: u32, now: u32) -> u32 {
     std::num::wrapping_add_u32(n, std::num::wrapping_sub_u32(was, now))
 }
@@ -71,6 +79,8 @@ fn first() -> Shift {
         sent: 0,
         answered: 0,
         withdrawn: 0,
+        started: 0,
+        taken: 0,
         refused: 0,
     };
     Shift {

@@ -22,6 +22,8 @@ pub fn played(s: Shift, image: usize, log: usize) {
     say(day::DRIVERS as u64, b" drivers sign on.\n");
     let w = book::waiting(t);
     counted(c, w.loads);
+    displayed(c, w.displays);
+    say(c.refused as u64, b" events are refused. ");
     say(t.live() as u64, b" threads live at the end, ");
     say(w.scale as u64, b" of them at the scale and ");
     say(w.keypad as u64, b" at the keypad.\n\n");
@@ -39,7 +41,12 @@ fn counted(c: Counts, waiting: u32) {
     say(c.answered as u64, b" answered, ");
     say(c.withdrawn as u64, b" gone with a driver who signed off, ");
     say(waiting as u64, b" waiting.\n");
-    say(c.refused as u64, b" events are refused. ");
+}
+
+fn displayed(c: Counts, left: u32) {
+    say(c.started as u64, b" displays are started: ");
+    say(c.taken as u64, b" gone with a driver who signed off, ");
+    say(left as u64, b" left.\n");
 }
 
 // What the failures of the power left.

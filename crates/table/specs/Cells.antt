@@ -18,9 +18,9 @@ use Rattle.table.specs.declared.Thread.{Thread}
 abbrev pub cell : ℕ → ℕ → ℕ
 cell k p = k * places + p
 
--- the rows: five of bytes, two of words
+-- the rows: six of bytes, two of words
 abbrev pub byteRows : ℕ
-byteRows = 5
+byteRows = 6
 
 abbrev pub wordRows : ℕ
 wordRows = 2
@@ -42,6 +42,7 @@ threadOf b w p = record {
   code = getD b (cell 3 p) 0;
   who = getD b (cell 4 p) 0;
   answer = getD w (cell 1 p) 0;
+  parent = getD b (cell 5 p) 0;
 }
 
 -- the model of the last number given, the running place and the three arrays
@@ -87,4 +88,5 @@ asThread t = record {
   code = t .answer .code;
   who = t .answer .who .0;
   answer = t .answer .word;
+  parent = t .parent .0;
 }

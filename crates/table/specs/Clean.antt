@@ -9,7 +9,7 @@ use lib.ListN.{length}
 use Rattle.rules.specs.Values.{nobody}
 use Rattle.rules.specs.Model.{places, Empty, Thread, vacant}
 use Rattle.table.specs.Cells.{byteRows, wordRows, threadOf}
-use Rattle.table.specs.Stores.{Stood, Told, Named, Stored, wrote-then, named, stood, heard}
+use Rattle.table.specs.Stores.{Stood, Told, Named, Raised, Stored, wrote-then, named, stood, heard, raised}
 
 -- the arrays have the sizes of their types
 pub record Sized (b w : List ℕ) : Type 0 where
@@ -19,11 +19,13 @@ pub record Sized (b w : List ℕ) : Type 0 where
 abbrev pub emptied : Thread → Thread
 emptied t = vacant
 
-pub cleaned : {b w b₁ b₂ w₂ b₃ w₃ : List ℕ} {p : ℕ} → Sized b w → p < places → Named b p nobody b₁ → Stood b₁ w p Empty nobody 0 b₂ w₂ → Told b₂ w₂ p 0 nobody 0 b₃ w₃ → Stored b w p emptied b₃ w₃
-cleaned k h n s t =
+pub cleaned : {b w b₁ b₂ w₂ b₃ w₃ b₄ : List ℕ} {p : ℕ} → Sized b w → p < places → Named b p nobody b₁ → Stood b₁ w p Empty nobody 0 b₂ w₂ → Told b₂ w₂ p 0 nobody 0 b₃ w₃
+    → Raised b₃ p nobody b₄ → Stored b w p emptied b₄ w₃
+cleaned k h n s t r =
     let x = named (k .blocks) (k .words) h n in
     let y = stood (x .blocks) (x .words) h s in
-    wrote-then x (wrote-then y (heard (y .blocks) (y .words) h t))
+    let z = heard (y .blocks) (y .words) h t in
+    wrote-then x (wrote-then y (wrote-then z (raised (z .blocks) (z .words) h r)))
 
 -- the first i places are clean
 pub record Emptied (b w : List ℕ) (i : ℕ) : Type 0 where

@@ -19,15 +19,16 @@ use Rattle.table.specs.Cells.{cell, byteRows, wordRows, threadOf, modelO
 
 -- a thread with the byte of row k, or the word of row k, made x
 abbrev pub withByte : ℕ → ℕ → Thread → Thread
-withByte zero x t = record { number = x; standing = t .standing; partner = t .partner; word = t .word; code = t .code; who = t .who; answer = t .answer }
-withByte (suc zero) x t = record { number = t .number; standing = x; partner = t .partner; word = t .word; code = t .code; who = t .who; answer = t .answer }
-withByte (suc (suc zero)) x t = record { number = t .number; standing = t .standing; partner = x; word = t .word; code = t .code; who = t .who; answer = t .answer }
-withByte (suc (suc (suc zero))) x t = record { number = t .number; standing = t .standing; partner = t .partner; word = t .word; code = x; who = t .who; answer = t .answer }
-withByte (suc (suc (suc (suc k)))) x t = record { number = t .number; standing = t .standing; partner = t .partner; word = t .word; code = t .code; who = x; answer = t .answer }
+withByte zero x t = record { number = x; standing = t .standing; partner = t .partner; word = t .word; code = t .code; who = t .who; answer = t .answer; parent = t .parent }
+withByte (suc zero) x t = record { number = t .number; standing = x; partner = t .partner; word = t .word; code = t .code; who = t .who; answer = t .answer; parent = t .parent }
+withByte (suc (suc zero)) x t = record { number = t .number; standing = t .standing; partner = x; word = t .word; code = t .code; who = t .who; answer = t .answer; parent = t .parent }
+withByte (suc (suc (suc zero))) x t = record { number = t .number; standing = t .standing; partner = t .partner; word = t .word; code = x; who = t .who; answer = t .answer; parent = t .parent }
+withByte (suc (suc (suc (suc zero)))) x t = record { number = t .number; standing = t .standing; partner = t .partner; word = t .word; code = t .code; who = x; answer = t .answer; parent = t .parent }
+withByte (suc (suc (suc (suc (suc k))))) x t = record { number = t .number; standing = t .standing; partner = t .partner; word = t .word; code = t .code; who = t .who; answer = t .answer; parent = x }
 
 abbrev pub withWord : ℕ → ℕ → Thread → Thread
-withWord zero x t = record { number = t .number; standing = t .standing; partner = t .partner; word = x; code = t .code; who = t .who; answer = t .answer }
-withWord (suc k) x t = record { number = t .number; standing = t .standing; partner = t .partner; word = t .word; code = t .code; who = t .who; answer = x }
+withWord zero x t = record { number = t .number; standing = t .standing; partner = t .partner; word = x; code = t .code; who = t .who; answer = t .answer; parent = t .parent }
+withWord (suc k) x t = record { number = t .number; standing = t .standing; partner = t .partner; word = t .word; code = t .code; who = t .who; answer = x; parent = t .parent }
 
 -- row j of place p after a store at row k of it
 row-set : (a : List ℕ) (n k j p x : ℕ) → length a ≡ n * places → k < n → p < places → getD (set a (cell k p) x) (cell j p) 0 ≡ cond (eqb j k) x (getD a (cell j p) 0)
@@ -46,15 +47,16 @@ module _ (b w : List ℕ) (p : ℕ) (h : p < places) where
     at-row k j i = row-set b byteRows k j p x e i h
 
     pub byte-here : (k : ℕ) → k < byteRows → threadOf (set b (cell k p) x) w p ≡ withByte k x (threadOf b w p)
-    byte-here zero i = rw (at-row 0 0 i, at-row 0 1 i, at-row 0 2 i, at-row 0 3 i, at-row 0 4 i)
-    byte-here (suc zero) i = rw (at-row 1 0 i, at-row 1 1 i, at-row 1 2 i, at-row 1 3 i, at-row 1 4 i)
-    byte-here (suc (suc zero)) i = rw (at-row 2 0 i, at-row 2 1 i, at-row 2 2 i, at-row 2 3 i, at-row 2 4 i)
-    byte-here (suc (suc (suc zero))) i = rw (at-row 3 0 i, at-row 3 1 i, at-row 3 2 i, at-row 3 3 i, at-row 3 4 i)
-    byte-here (suc (suc (suc (suc zero)))) i = rw (at-row 4 0 i, at-row 4 1 i, at-row 4 2 i, at-row 4 3 i, at-row 4 4 i)
-    byte-here (suc (suc (suc (suc (suc k))))) i = absurd (omega arith)
+    byte-here zero i = rw (at-row 0 0 i, at-row 0 1 i, at-row 0 2 i, at-row 0 3 i, at-row 0 4 i, at-row 0 5 i)
+    byte-here (suc zero) i = rw (at-row 1 0 i, at-row 1 1 i, at-row 1 2 i, at-row 1 3 i, at-row 1 4 i, at-row 1 5 i)
+    byte-here (suc (suc zero)) i = rw (at-row 2 0 i, at-row 2 1 i, at-row 2 2 i, at-row 2 3 i, at-row 2 4 i, at-row 2 5 i)
+    byte-here (suc (suc (suc zero))) i = rw (at-row 3 0 i, at-row 3 1 i, at-row 3 2 i, at-row 3 3 i, at-row 3 4 i, at-row 3 5 i)
+    byte-here (suc (suc (suc (suc zero)))) i = rw (at-row 4 0 i, at-row 4 1 i, at-row 4 2 i, at-row 4 3 i, at-row 4 4 i, at-row 4 5 i)
+    byte-here (suc (suc (suc (suc (suc zero))))) i = rw (at-row 5 0 i, at-row 5 1 i, at-row 5 2 i, at-row 5 3 i, at-row 5 4 i, at-row 5 5 i)
+    byte-here (suc (suc (suc (suc (suc (suc k)))))) i = absurd (omega arith)
 
     pub byte-there : (k : ℕ) (r : ℕ) → r < places → (r ≡ p → ⊥) → threadOf (set b (cell k p) x) w r ≡ threadOf b w r
-    byte-there k r g n = rw (row-other b k 0 p r x h g n, row-other b k 1 p r x h g n, row-other b k 2 p r x h g n, row-other b k 3 p r x h g n, row-other b k 4 p r x h g n)
+    byte-there k r g n = rw (row-other b k 0 p r x h g n, row-other b k 1 p r x h g n, row-other b k 2 p r x h g n, row-other b k 3 p r x h g n, row-other b k 4 p r x h g n, row-other b k 5 p r x h g n)
 
   module _ (e : length w ≡ wordRows * places) (x : ℕ) where
     pub word-here : (k : ℕ) → k < wordRows → threadOf b (set w (cell k p) x) p ≡ withWord k x (threadOf b w p)
@@ -99,7 +101,8 @@ module _ {b w l b′ w′ l′ : List ℕ} (k : Whole b w l) (k′ : Whole b′ 
   same-byte (suc (suc zero)) p i h = ap (λ (t : Thread). t .partner) (same-thread p h)
   same-byte (suc (suc (suc zero))) p i h = ap (λ (t : Thread). t .code) (same-thread p h)
   same-byte (suc (suc (suc (suc zero)))) p i h = ap (λ (t : Thread). t .who) (same-thread p h)
-  same-byte (suc (suc (suc (suc (suc j))))) p i h = absurd (omega arith)
+  same-byte (suc (suc (suc (suc (suc zero))))) p i h = ap (λ (t : Thread). t .parent) (same-thread p h)
+  same-byte (suc (suc (suc (suc (suc (suc j)))))) p i h = absurd (omega arith)
 
   same-word : (j p : ℕ) → j < wordRows → p < places → getD w (cell j p) 0 ≡ getD w′ (cell j p) 0
   same-word zero p i h = ap (λ (t : Thread). t .word) (same-thread p h)

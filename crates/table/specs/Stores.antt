@@ -31,6 +31,10 @@ Told b w p co n x b′ w′ = (b′ ≡ set (set b (cell 3 p) co) (cell 4 p) n) 
 abbrev pub Named : List ℕ → ℕ → ℕ → List ℕ → Type 0
 Named b p n b′ = b′ ≡ set b (cell 0 p) n
 
+-- a parent at p
+abbrev pub Raised : List ℕ → ℕ → ℕ → List ℕ → Type 0
+Raised b p n b′ = b′ ≡ set b (cell 5 p) n
+
 -- ---- what it makes of the threads
 
 -- f made another of the thread at p, and nothing else is changed
@@ -65,3 +69,6 @@ module _ {b w : List ℕ} (i : length b ≡ byteRows * places) (j : length w ≡
 
 pub named : {b w b′ : List ℕ} {p n : ℕ} → length b ≡ byteRows * places → length w ≡ wordRows * places → p < places → Named b p n b′ → Stored b w p (withByte 0 n) b′ w
 named {n = n} i j h e = rw e (byte i j h 0 n (omega arith))
+
+pub raised : {b w b′ : List ℕ} {p n : ℕ} → length b ≡ byteRows * places → length w ≡ wordRows * places → p < places → Raised b p n b′ → Stored b w p (withByte 5 n) b′ w
+raised {n = n} i j h e = rw e (byte i j h 5 n (omega arith))

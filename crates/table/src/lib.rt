@@ -9,7 +9,7 @@ ghost use Rattle.rules.specs.Model.{places, lineCount, vacant};
 ghost use Rattle.rules.specs.Rules.{hears, waited, choice};
 ghost use Rattle.table.specs.Cells.{cell, threadOf, shown, asThread};
 ghost use Rattle.table.specs.Choose.{Legible};
-ghost use Rattle.table.specs.Stores.{Stood, Told, Named, Stored, awaitsOf};
+ghost use Rattle.table.specs.Stores.{Stood, Told, Named, Raised, Stored, awaitsOf};
 ghost use Rattle.table.specs.Clean.{Sized, emptied, Emptied};
 ghost use Rattle.table.specs.declared.Desk.{Desk};
 use lines::Links;
@@ -28,7 +28,9 @@ pub const CODE: usize = 3 * lines::PLACES;
 
 pub const WHO: usize = 4 * lines::PLACES;
 
-pub const BYTES: usize = 5 * lines::PLACES;
+pub const PARENT: usize = 5 * lines::PLACES;
+
+pub const BYTES: usize = 6 * lines::PLACES;
 
 // Each word of a thread has a row in the other.
 pub const WORD: usize = 0;
@@ -71,6 +73,7 @@ pub struct Thread {
     pub partner: Number,
     pub word: u32,
     pub answer: Answer,
+    pub parent: Number,
 }
 
 // The clean value of an empty place.
@@ -87,6 +90,7 @@ pub fn vacancy() -> Thread
             who: Number(rules::NOBODY),
             word: 0,
         },
+        parent: Number(rules::NOBODY),
     }
 }
 
@@ -106,6 +110,7 @@ pub fn read(b: &Blocks, w: &Words, p: Place) -> Thread
             who: Number(b[WHO + at]),
             word: w[ANSWER + at],
         },
+        parent: Number(b[PARENT + at]),
     }
 }
 
@@ -156,6 +161,14 @@ pub fn partner_of(b: &Blocks, p: Place) -> Number
     Number(b[PARTNER + at])
 }
 
+pub fn parent_of(b: &Blocks, p: Place) -> Number
+    requires { ⌜ p .0 < places ⌝ }
+    ensures { λ r. ⌜ r .0 ≡ getD (now (b .entry)) (cell 5 (p .0)) 0 ⌝ }
+{
+    let at = p.0 as usize;
+    Number(b[PARENT + at])
+}
+
 pub fn word_of(w: &Words, p: Place) -> u32
     requires { ⌜ p .0 < places ⌝ }
     ensures { λ r. ⌜ r ≡ getD (now (w .entry)) (cell 0 (p .0)) 0 ⌝ }
@@ -195,6 +208,15 @@ pub fn name(b: &mut Blocks, p: Place, n: Number)
     b[NUMBER + at] = n.0;
 }
 
+// The parent of the thread at p.
+pub fn raise(b: &mut Blocks, p: Place, n: Number)
+    requires { ⌜ p .0 < places ⌝ }
+    ensures { λ r. ⌜ Raised (now (b .entry)) (p .0) (n .0) (now (b .exit)) ⌝ }
+{
+    let at = p.0 as usize;
+    b[PARENT + at] = n.0;
+}
+
 // The place p is cleaned.
 pub fn clean(b: &mut Blocks, w: &mut Words, p: Place)
     requires { ⌜ Sized (now b) (now w) × (p .0 < places) ⌝ }
@@ -203,6 +225,7 @@ pub fn clean(b: &mut Blocks, w: &mut Words, p: Place)
     name(b, p, Number(rules::NOBODY));
     stand(b, w, p, rules::EMPTY, Number(rules::NOBODY), 0);
     tell(b, w, p, 0, Number(rules::NOBODY), 0);
+    raise(b, p, Number(rules::NOBODY));
 }
 
 // Every place is cleaned.

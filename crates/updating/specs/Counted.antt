@@ -14,11 +14,13 @@ use Rattle.rules.specs.Model.{lineCount, Empty, Running, Sending, Awaiting, Rec
 use Rattle.rules.specs.Rules.{outside, choice, updated}
 use Rattle.rules.specs.Consistent.{OldConsistent, ListensToLive}
 use Rattle.rules.specs.declared.Choice.the-variants.{Run, Stuck}
+use Rattle.order.specs.KinKept.{kin-older}
 use Rattle.order.specs.Sound.{Fit, Sound, old-whole}
 use Rattle.order.specs.Belongs.{Lineless, in-none}
 use Rattle.order.specs.End.{fit-vacant}
 use Rattle.nucleus.specs.View.{Shows}
-use Rattle.saving.specs.Format.{queuesOf, rowOf, Known, queuesIn, encodeAs}
+use Rattle.saving.specs.Format.{queuesOf, parentsOf, rowOf, Known, Holds, queuesIn, encodeAs}
+use Rattle.saving.specs.Editions.{known-of}
 use Rattle.loading.specs.Loads.{Foreign, Loads, OldImage}
 use Rattle.loading.specs.Injective.{image-one}
 use Rattle.loading.specs.Judges.{head-image}
@@ -28,7 +30,7 @@ use Rattle.updating.specs.Updates.{Updates, update-takes, update-gives, 
 
 -- 0 receives from 1
 abbrev listener : Thread
-listener = record { number = 0; standing = Receiving; partner = 1; word = 0; code = 0; who = nobody; answer = 0 }
+listener = record { number = 0; standing = Receiving; partner = 1; word = 0; code = 0; who = nobody; answer = 0; parent = nobody }
 
 -- 1 is the last number given, and nobody has it
 abbrev deserter : Model
@@ -79,8 +81,11 @@ sound = record {
   stood = λ p q. rw (lineless q, in-none deserter (thread deserter p) (each (λ t. Lineless (t .standing)) (omega arith) (omega arith) p) q);
 }
 
+parentless : (p : ℕ) → thread deserter p .parent ≡ nobody
+parentless = each (λ t. t .parent ≡ nobody) refl refl
+
 consistent : OldConsistent deserter
-consistent = old-whole deserter sound (λ _. refl)
+consistent = old-whole deserter sound (λ _. refl) (kin-older deserter sound parentless)
 
 nobody-heard : ListensToLive deserter → ⊥
 nobody-heard L = let l = L 0 refl (omega arith) in dead (l .0) (l .1) (l .2)
@@ -89,7 +94,7 @@ nobody-heard L = let l = L 0 refl (omega arith) in dead (l .0) (l .1) (l .2)
     dead zero h e = omega arith
     dead (suc r) h e = (rw (others r) at h) refl
 
--- ---- its image (25 bytes), and the one that is saved after the update (73 bytes)
+-- ---- its image (25 bytes), and the one that is saved after the update (74 bytes)
 
 abbrev before : List ℕ
 before =
@@ -99,17 +104,20 @@ before =
 
 abbrev behind : List ℕ
 behind =
-    2 ∷ 1 ∷ 0 ∷ 1 ∷ 0 ∷ 0 ∷ replicate devices 0 ++ (73 ∷ 0 ∷ [])
+    3 ∷ 1 ∷ 0 ∷ 1 ∷ 0 ∷ 0 ∷ replicate devices 0 ++ (74 ∷ 0 ∷ [])
     ++ (0 ∷ 0 ∷ 60 ∷ 0 ∷ [])
-    ++ (1 ∷ 255 ∷ 0 ∷ 0 ∷ 0 ∷ 0 ∷ 16 ∷ 1 ∷ 0 ∷ 0 ∷ 0 ∷ 0 ∷ 0 ∷ [])
+    ++ (1 ∷ 255 ∷ 0 ∷ 0 ∷ 0 ∷ 0 ∷ 16 ∷ 1 ∷ 0 ∷ 0 ∷ 0 ∷ 0 ∷ 0 ∷ 255 ∷ [])
 
 old-known : Known (rowOf 1)
 unfolding queuesOf
-old-known = record { listed = refl; some = omega arith }
+old-known = known-of 1 (λ z. omega arith)
+
+holds : Holds (rowOf 1) deserter
+holds = record { queues = λ q _ _. lineless q; parents = λ _. parentless }
 
 image : OldImage deserter before
-unfolding encodeAs queuesOf queuesIn allPlaces tally
-image = (rowOf 1, record { known = old-known; consistent = consistent; holds = λ q _ _. lineless q; bytes = refl })
+unfolding encodeAs queuesOf parentsOf queuesIn allPlaces tally
+image = (rowOf 1, record { known = old-known; consistent = consistent; holds = holds; bytes = refl })
 
 -- no consistent state has it
 foreign : Foreign before
@@ -133,7 +141,7 @@ pub record SeenOfUpdate : Type 0 where
   pub update-takes-it : (r : Loaded) → Updates before r → (r .code ≡ 0) × Shows (r .state) (updated deserter)
   pub choice-before : choice deserter ≡ Stuck
   pub choice-behind : choice (updated deserter) ≡ Run (record { 0 = 0 })
-  pub thread-behind : thread (updated deserter) 0 ≡ record { number = 0; standing = Running; partner = nobody; word = 0; code = 16; who = 1; answer = 0 }
+  pub thread-behind : thread (updated deserter) 0 ≡ record { number = 0; standing = Running; partner = nobody; word = 0; code = 16; who = 1; answer = 0; parent = nobody }
 
 pub counted-update : SeenOfUpdate
 unfolding allPlaces tally outside

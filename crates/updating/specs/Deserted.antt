@@ -13,7 +13,8 @@ use Rattle.rules.specs.Model.{places, lineCount, Receiving, Thread, Model, thre
 use Rattle.rules.specs.Rules.{woken, Group, deserted}
 use Rattle.order.specs.HandBack.{let-step}
 use Rattle.order.specs.Moves.{Kept}
-use Rattle.order.specs.Update.{deserted-fair, same-place}
+use Rattle.order.specs.KinKept.{same-place}
+use Rattle.order.specs.Update.{deserted-fair}
 use Rattle.table.specs.Cells.{cell, threadOf, modelOf}
 use Rattle.verbs.specs.Steps.{Steps}
 use Rattle.verbs.specs.Find.{found, found-is}

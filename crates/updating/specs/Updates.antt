@@ -18,7 +18,7 @@ use Rattle.loading.specs.Accepts.{loaded-is, refused-one, refuses-not, refuses-
 use Rattle.loading.specs.declared.Loaded.{Loaded}
 
 pub data Updates (s : List ℕ) (r : Loaded) : Type 0 where
-  -- refused as load refuses, but for the clause that the old rules do not know: the fresh state
+  -- refused as load refuses, but for P2's clause, which the old rules do not know: the fresh state
   refused : (c : ℕ) → OldRefuses s c → Refused c r → Updates s r
   -- the bytes are the image of m by the old rules: m, updated
   taken-over : (m : Model) → OldImage m s → r .code ≡ 0 → Shows (r .state) (updated m) → Updates s r

@@ -71,11 +71,12 @@ pub fn dispatch(b: &mut Blocks, w: &mut Words, l: &mut Links, d: Desk) -> Desk
     turn_to(d, at)
 }
 
-// The empty place p takes a thread with the number n, which goes to the back of ready.
-pub fn seat(b: &mut Blocks, w: &mut Words, l: &mut Links, p: Place, n: Number)
+// The empty place p takes a thread with the number n and this parent, which goes to the back of ready.
+pub fn seat(b: &mut Blocks, w: &mut Words, l: &mut Links, p: Place, n: Number, parent: Number)
     requires { ⌜ Whole (now b) (now w) (now l) × (p .0 < places) × Loose lineCount (lineOf places (now l)) (p .0) ⌝ }
-    ensures { λ r. ⌜ Steps (now (b .entry)) (now (w .entry)) (now (l .entry)) (now (b .exit)) (now (w .exit)) (now (l .exit)) (seated (p .0) (n .0)) ⌝ }
+    ensures { λ r. ⌜ Steps (now (b .entry)) (now (w .entry)) (now (l .entry)) (now (b .exit)) (now (w .exit)) (now (l .exit)) (seated (p .0) (n .0) (parent .0)) ⌝ }
 {
     table::name(b, p, n);
+    table::raise(b, p, parent);
     wake(b, w, l, p, 0, Number(rules::NOBODY), 0);
 }

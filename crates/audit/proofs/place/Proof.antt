@@ -1,4 +1,4 @@
--- `place` meets its contract: five tests, of the thread that stands there.
+-- `place` meets its contract: six tests, of the thread that stands there.
 use borrow.Author.Needs.{needs}
 use mathlib.Core.Path.{sym, ap, _∙_}
 use mathlib.Core.List.{[]}
@@ -34,6 +34,9 @@ unheard-requires c κs = search needs
 names-live-requires : tie.Need-names-live-requires
 names-live-requires c κs = search needs
 
+parented-requires : tie.Need-parented-requires
+parented-requires c κs = search needs
+
 fits-requires : tie.Need-fits-requires
 fits-requires c κs = search needs
 
@@ -42,7 +45,8 @@ runs-alone-requires c κs = search needs
 
 returns : tie.Need-returns
 returns c =
-    let at-names = c .before .before in
+    let at-parented = c .before .before in
+    let at-names = at-parented .before in
     let at-unheard = at-names .before in
     let at-home = at-unheard .before in
     let at-wide = at-home .before .before .before .before in
@@ -50,10 +54,11 @@ returns c =
     let f = at-read .before in
     let t = at-read .read in
     seat-test (f .args .strict) (modelOf 0 (f .args .running .0) (f .args .b .now) (f .args .w .now) []) (f .args .at .now) (f .args .who .now) (f .args .p .0) _ _
-    (asThread (t .result)) _ _ _ _
+    (asThread (t .result)) _ _ _ _ _
     (t .ensures ∙ sym (thread-at 0 (f .args .running .0) (f .args .b .now) (f .args .w .now) [] (f .args .p .0) (f .pre)))
     (ap (λ (n : ℕ). getD (f .args .who .now) n 0) (at-wide .wide .ensures .0))
     (c .before .fits2 .ensures) (c .runs-alone .ensures) (at-home .home .ensures) (at-unheard .unheard .ensures (f .args .w .now)) (at-names .names-live .ensures)
+    (at-parented .parented .ensures)
 
 pub place-spec : {M : Type 1} → statement M
 place-spec =
@@ -67,6 +72,7 @@ place-spec =
     home-requires
     unheard-requires
     names-live-requires
+    parented-requires
     fits-requires
     runs-alone-requires
     returns)

@@ -8,13 +8,13 @@ use Rattle.saving.proofs.put_bodies.Statement.{statement}
 use Rattle.saving.proofs.put_bodies.Tie as tie
 
 abbrev Inv-loop : tie.InvT-loop
-Inv-loop out₀ at b w l next₀ p₀ out next p = Embodies (held b w l) out₀ at out next p × (p ≤ places)
+Inv-loop out₀ at row b w l next₀ p₀ out next p = Embodies row (held b w l) out₀ at out next p × (p ≤ places)
 
 abbrev μ-loop : tie.MeasureT-loop
-μ-loop out₀ at b w l next₀ p₀ out next p = places - p
+μ-loop out₀ at row b w l next₀ p₀ out next p = places - p
 
 loop-holds : tie.Need-loop-holds Inv-loop μ-loop
-loop-holds c = let a = c .before .args in (bodies-start (held (a .b .now) (a .w .now) (a .l .now)) (a .out .now) (a .at) (c .before .pre .1), search needs)
+loop-holds c = let a = c .before .args in (bodies-start (a .row) (held (a .b .now) (a .w .now) (a .l .now)) (a .out .now) (a .at) (c .before .pre .1), search needs)
 
 cast-loop : tie.Need-cast-loop Inv-loop μ-loop
 cast-loop c = search needs

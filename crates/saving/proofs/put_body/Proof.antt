@@ -12,14 +12,14 @@ returns c =
     let at-read = c .before .before in
     let start = at-read .before .before in
     let a = start .args in
-    body-none (a .b .now) (a .w .now) (a .l .now) (a .p .0) (start .pre .1) (at-read .read .ensures) (c .if1 .taken) (a .out .now) (a .at)
+    body-none (a .row) (a .b .now) (a .w .now) (a .l .now) (a .p .0) (start .pre .1) (at-read .read .ensures) (c .if1 .taken) (a .out .now) (a .at)
 
 put-thread-requires : tie.Need-put-thread-requires
 put-thread-requires c κs =
     let at-read = c .before .before .before in
     let start = at-read .before .before in
     let a = start .args in
-    thread-room (a .b .now) (a .w .now) (a .l .now) (a .p .0) (start .pre .1) (at-read .read .ensures) (c .before .if1 .left) (a .out .now) (a .at)
+    thread-room (a .row) (a .b .now) (a .w .now) (a .l .now) (a .p .0) (start .pre .1) (at-read .read .ensures) (c .before .if1 .left) (a .out .now) (a .at)
     (start .pre .2)
 
 add-put-inbox : tie.Need-add-put-inbox
@@ -32,7 +32,7 @@ put-inbox-requires c κs =
     let at-read = at-if1 .before .before in
     let start = at-read .before .before in
     let a = start .args in
-    (search needs, search needs, inbox-room (a .b .now) (a .w .now) (a .l .now) (a .p .0) (start .pre .1) (at-read .read .ensures) (at-if1 .if1 .left) (a .out .now) (a .at) (start .pre .2) (at-put-thread .put-thread .ensures))
+    (search needs, search needs, inbox-room (a .row) (a .b .now) (a .w .now) (a .l .now) (a .p .0) (start .pre .1) (at-read .read .ensures) (at-if1 .if1 .left) (a .out .now) (a .at) (start .pre .2) (at-put-thread .put-thread .ensures))
 
 same-length : tie.Need-same-length
 same-length c = search needs
@@ -45,7 +45,7 @@ returns-2 c =
     let at-read = at-if1 .before .before in
     let start = at-read .before .before in
     let a = start .args in
-    body-whole (a .b .now) (a .w .now) (a .l .now) (a .p .0) (start .pre .1) (at-read .read .ensures) (at-if1 .if1 .left) (a .out .now) (a .at)
+    body-whole (a .row) (a .b .now) (a .w .now) (a .l .now) (a .p .0) (start .pre .1) (at-read .read .ensures) (at-if1 .if1 .left) (a .out .now) (a .at)
     (start .pre .2) (at-put-thread .put-thread .ensures) (at-put-inbox .put-inbox .ensures)
 
 pub put-body-spec : {M : Type 1} → statement M

@@ -8,15 +8,15 @@ use Rattle.saving.proofs.put_contents.Statement.{statement}
 use Rattle.saving.proofs.put_contents.Tie as tie
 
 abbrev Inv-loop : tie.InvT-loop
-Inv-loop out₀ at b w l first c₀ p₀ out c p = Lists (held b w l) out₀ at first out (c .at) (c .body) p × (p ≤ places)
+Inv-loop out₀ at row b w l first c₀ p₀ out c p = Lists row (held b w l) out₀ at first out (c .at) (c .body) p × (p ≤ places)
 
 abbrev μ-loop : tie.MeasureT-loop
-μ-loop out₀ at b w l first c₀ p₀ out c p = places - p
+μ-loop out₀ at row b w l first c₀ p₀ out c p = places - p
 
 loop-holds : tie.Need-loop-holds Inv-loop μ-loop
 loop-holds c =
     let a = c .before .args in
-    (contents-start (held (a .b .now) (a .w .now) (a .l .now)) (a .out .now) (a .at) (a .first) (c .before .pre .room), search needs)
+    (contents-start (a .row) (held (a .b .now) (a .w .now) (a .l .now)) (a .out .now) (a .at) (a .first) (c .before .pre .room), search needs)
 
 cast-loop : tie.Need-cast-loop Inv-loop μ-loop
 cast-loop c = search needs

@@ -1,39 +1,62 @@
--- `put_inbox` meets its contract: the places, and before them how many they are.
+-- `put_inbox` meets its contract: how many places there are, behind it the parent, and behind that the places.
 use borrow.Author.Needs.{needs}
-use native.Mathlib.Omega.{arith}
-use Rattle.lists.specs.Laid.{wrote-counted}
-use Rattle.lines.specs.Passes.{line-short}
+use Rattle.lists.specs.Sizes.{places}
+use Rattle.lines.specs.Lines.{lineOf}
+use Rattle.saving.specs.Entries.{parent-fits, places-fit, inbox-whole, inbox-same-length}
 use Rattle.saving.proofs.put_inbox.Statement.{statement}
 use Rattle.saving.proofs.put_inbox.Tie as tie
 
-add-first : tie.Need-add-first
-add-first c = search needs
-
-put-line-requires : tie.Need-put-line-requires
-put-line-requires c κs = search needs
-
-sub-out : tie.Need-sub-out
-sub-out c = search needs
-
-cast-out : tie.Need-cast-out
-cast-out c =
-    let at-put-line = c .before .before in
-    let start = at-put-line .before .before .before in
-    let f = start .pre in
-    let n = line-short (f .0) (omega arith) (f .1) in
-    let e = at-put-line .put-line .ensures .next in
-    omega arith
+measure-requires : tie.Need-measure-requires
+measure-requires c κs = search needs
 
 slice-write-out : tie.Need-slice-write-out
 slice-write-out c = search needs
 
+add-put-parent : tie.Need-add-put-parent
+add-put-parent c = search needs
+
+put-parent-requires : tie.Need-put-parent-requires
+put-parent-requires c κs =
+    let start = c .before .before .before in
+    let a = start .args in
+    parent-fits (a .row) (a .out .now) (lineOf places (a .l .now) (a .q)) (a .at) (a .n .0) (c .before .measure .ensures) (start .pre .2)
+
+put-line-requires : tie.Need-put-line-requires
+put-line-requires c κs =
+    let at-parent = c .before .before .before in
+    let at-measure = at-parent .before .before in
+    let start = at-measure .before .before in
+    let a = start .args in
+    (start .pre .0, start .pre .1, places-fit (a .row) (a .out .now) (lineOf places (a .l .now) (a .q)) (a .at) (a .n .0) (at-measure .measure .ensures) (start .pre .2) (at-parent .put-parent .ensures))
+
 same-length : tie.Need-same-length
-same-length c = search needs
+same-length c =
+    let at-line = c .before .before in
+    let at-parent = at-line .before .before .before .before in
+    let at-measure = at-parent .before .before in
+    let start = at-measure .before .before in
+    let a = start .args in
+    inbox-same-length (a .row) (a .out .now) (lineOf places (a .l .now) (a .q)) (a .at) (a .n .0) (at-measure .measure .ensures) (start .pre .2) (at-parent .put-parent .ensures)
+    (at-line .put-line .ensures)
 
 returns : tie.Need-returns
-returns c = wrote-counted (c .before .before .put-line .ensures) (c .before .before .before .before .before .pre .2)
+returns c =
+    let at-line = c .before .before in
+    let at-parent = at-line .before .before .before .before in
+    let at-measure = at-parent .before .before in
+    let start = at-measure .before .before in
+    let a = start .args in
+    inbox-whole (a .row) (a .out .now) (lineOf places (a .l .now) (a .q)) (a .at) (a .n .0) (at-measure .measure .ensures) (start .pre .2) (at-parent .put-parent .ensures)
+    (at-line .put-line .ensures)
 
 pub put-inbox-spec : {M : Type 1} → statement M
 put-inbox-spec =
     tie.close
-    (tie.spec add-first put-line-requires sub-out cast-out slice-write-out same-length returns)
+    (tie.spec
+    measure-requires
+    slice-write-out
+    add-put-parent
+    put-parent-requires
+    put-line-requires
+    same-length
+    returns)

@@ -32,15 +32,22 @@ at-requires c κs = search needs
 wide-requires : tie.Need-wide-requires
 wide-requires c κs = search needs
 
-add-t7 : tie.Need-add-t7
-add-t7 c = search needs
+body-length-requires : tie.Need-body-length-requires
+body-length-requires c κs = search needs
+
+add-t8 : tie.Need-add-t8
+add-t8 c = search needs
 
 returns : tie.Need-returns
 returns c =
-    let at-head = c .before .before .before in
+    let at-wide = c .before in
+    let at-at = at-wide .before in
+    let at-two = at-at .before in
+    let at-head = at-two .before in
     let start = at-head .before .before in
-    let e = c .wide .ensures .0 ∙ c .before .at .ensures in
-    (refl, c .before .before .two .ensures .0 ∙ ap (λ (x : ℕ). twoAt (start .args .image .now) (x + entryLength * start .args .i + 2)) (at-head .head-length .ensures), omega arith)
+    let e = at-wide .wide .ensures .0 ∙ at-at .at .ensures in
+    let f = c .body-length .ensures .0 in
+    (refl, at-two .two .ensures .0 ∙ ap (λ (x : ℕ). twoAt (start .args .image .now) (x + entryLength * start .args .i + 2)) (at-head .head-length .ensures), omega arith)
 
 pub body-spec : {M : Type 1} → statement M
 body-spec =
@@ -54,5 +61,6 @@ body-spec =
     add-at
     at-requires
     wide-requires
-    add-t7
+    body-length-requires
+    add-t8
     returns)

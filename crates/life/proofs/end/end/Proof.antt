@@ -1,6 +1,6 @@
--- `end` meets its contract: refused, or the thread ends and its place leaves the set of filled ones.
+-- `end` meets its contract: refused, or the thread ends with all that it started.
 use borrow.Author.Needs.{needs}
-use Rattle.life.specs.End.{ends, end-place, end-2, end-4, end-0}
+use Rattle.life.specs.Family.{end-2, end-4, end-tallied, end-may, end-0}
 use Rattle.life.proofs.end.end.Statement.{statement}
 use Rattle.life.proofs.end.end.Tie as tie
 
@@ -23,35 +23,31 @@ returns-2 c =
     let start = at-if1 .before .before in
     end-4 (start .pre) _ (at-if1 .if1 .left) (at-find .find .ensures) (c .before .if2 .taken) (c .answer2 .ensures)
 
-end-at-requires : tie.Need-end-at-requires
-end-at-requires c κs =
-    let at-if2 = c .before .before .before in
-    let at-find = at-if2 .before .before in
-    let at-if1 = at-find .before .before in
-    let start = at-if1 .before .before in
-    ends (start .pre) (start .args .n) (at-if1 .if1 .left) (at-find .find .ensures) (at-if2 .if2 .left)
+count-requires : tie.Need-count-requires
+count-requires c κs = search needs
 
-less-requires : tie.Need-less-requires
-less-requires c κs =
-    let at-if2 = c .before .before .before .before in
+end-down-requires : tie.Need-end-down-requires
+end-down-requires c κs =
+    let at-count = c .before .before .before in
+    let at-if2 = at-count .before in
     let at-find = at-if2 .before .before in
     let at-if1 = at-find .before .before in
     let start = at-if1 .before .before in
-    end-place (ends (start .pre) (start .args .n) (at-if1 .if1 .left) (at-find .find .ensures) (at-if2 .if2 .left))
+    (end-tallied (start .pre), end-may (start .pre) (start .args .n) (at-if1 .if1 .left) (at-find .find .ensures) (at-if2 .if2 .left) (at-count .count .ensures))
 
 answer-requires-3 : tie.Need-answer-requires-3
 answer-requires-3 c κs = search needs
 
 returns-3 : tie.Need-returns-3
 returns-3 c =
-    let at-less = c .before .before .before in
-    let at-end-at = at-less .before in
-    let at-if2 = at-end-at .before .before .before .before in
+    let at-end-down = c .before in
+    let at-count = at-end-down .before .before .before .before in
+    let at-if2 = at-count .before in
     let at-find = at-if2 .before .before in
     let at-if1 = at-find .before .before in
     let start = at-if1 .before .before in
-    end-0 (start .pre) (start .args .n) (at-if1 .if1 .left) (at-find .find .ensures) (at-if2 .if2 .left) (at-end-at .end-at .ensures)
-    (at-less .less .ensures) (c .answer3 .ensures)
+    end-0 (start .pre) (start .args .n) (at-if1 .if1 .left) (at-find .find .ensures) (at-if2 .if2 .left) (at-count .count .ensures) (at-end-down .end-down .ensures)
+    (c .answer3 .ensures)
 
 pub end-spec : {M : Type 1} → statement M
 end-spec =
@@ -62,7 +58,7 @@ end-spec =
     find-requires
     answer-requires-2
     returns-2
-    end-at-requires
-    less-requires
+    count-requires
+    end-down-requires
     answer-requires-3
     returns-3)

@@ -11,7 +11,7 @@ hand-all-back-requires : tie.Need-hand-all-back-requires
 hand-all-back-requires c κs =
     let start = c .before .before .before .before in
     let h = end-place (start .pre) in
-    (start .pre .stands .whole, omega arith, omega arith)
+    (start .pre .whole, omega arith, omega arith)
 
 let-go-requires : tie.Need-let-go-requires
 let-go-requires c κs =

@@ -27,7 +27,7 @@ returns : tie.Need-returns
 returns c =
     let at-consists = c .before .before in
     let at-candidate = at-consists .before in
-    foreign (foreign-not (at-candidate .before .row-at .ensures) (at-candidate .candidate .ensures) (at-consists .consists .ensures .no (not-true _ (c .before .if1 .taken))))
+    foreign (foreign-not (at-candidate .before .row-at .ensures) (at-candidate .candidate .ensures .0) (at-consists .consists .ensures .no (not-true _ (c .before .if1 .taken))))
     (c .refuse .ensures)
 
 holds-requires : tie.Need-holds-requires
@@ -42,7 +42,7 @@ returns-2 : tie.Need-returns-2
 returns-2 c =
     let at-holds = c .before .before in
     let at-candidate = at-holds .before .before .before .before .before in
-    foreign (foreign-full (at-candidate .before .row-at .ensures) (at-candidate .candidate .ensures) (at-holds .holds .ensures .no (not-true _ (c .before .if2 .taken))))
+    foreign (foreign-full (at-candidate .before .row-at .ensures) (at-candidate .candidate .ensures .0) (at-holds .holds .ensures .no (not-true _ (c .before .if2 .taken))))
     (c .refuse2 .ensures)
 
 same-requires : tie.Need-same-requires
@@ -59,7 +59,7 @@ returns-3 : tie.Need-returns-3
 returns-3 c =
     let at-same = c .before .before in
     let at-candidate = at-same .before .before .before .before .before .before .before in
-    foreign (foreign-other (at-candidate .before .row-at .ensures) (at-candidate .candidate .ensures) (at-same .same .ensures .no (not-true _ (c .before .if3 .taken))))
+    foreign (foreign-other (at-candidate .before .row-at .ensures) (at-candidate .candidate .ensures .0) (at-same .same .ensures .no (not-true _ (c .before .if3 .taken))))
     (c .refuse3 .ensures)
 
 returns-4 : tie.Need-returns-4
@@ -81,7 +81,7 @@ returns-4 c =
         record {
           known = row-known (start .args .image .now) (at-row .row-at .ensures) (start .pre);
           consistent = k .consistent;
-          holds = bare-holds (at-row .row-at .result) (at-candidate .candidate .result) (at-holds .holds .ensures .yes (not-false _ (at-if2 .if2 .left)));
+          holds = bare-holds (at-row .row-at .result) (at-candidate .candidate .result) (at-holds .holds .ensures .yes (not-false _ (at-if2 .if2 .left))) (at-candidate .candidate .ensures .1);
           bytes = at-same .same .ensures .yes (not-false _ (c .if3 .left));
         },
       );

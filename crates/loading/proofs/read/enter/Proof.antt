@@ -50,6 +50,9 @@ at-requires-3 c κs = search needs
 wide-requires-2 : tie.Need-wide-requires-2
 wide-requires-2 c κs = search needs
 
+body-length-requires : tie.Need-body-length-requires
+body-length-requires c κs = search needs
+
 add-enqueue : tie.Need-add-enqueue
 add-enqueue c = search needs
 
@@ -61,7 +64,8 @@ enqueue-requires c κs = search needs
 
 returns-2 : tie.Need-returns-2
 returns-2 c =
-    let at-wide2 = c .before .before in
+    let at-length = c .before .before in
+    let at-wide2 = at-length .before in
     let at-at3 = at-wide2 .before in
     let at-seat = at-at3 .before in
     let at-at2 = at-seat .before .before .before in
@@ -69,7 +73,7 @@ returns-2 c =
     let at-at = at-two .before .before .before in
     let at-head = at-at .before in
     let i = at-head .before .before .args .i in
-    entered-one (at-seat .seat .ensures) (c .enqueue .ensures) (ap (λ (n : ℕ). n + entryLength * i) (at-head .head-length .ensures)) (at-at .at .ensures)
+    entered-one (at-seat .seat .ensures) (rw (at-length .body-length .ensures .0) at (c .enqueue .ensures)) (ap (λ (n : ℕ). n + entryLength * i) (at-head .head-length .ensures)) (at-at .at .ensures)
     (at-at2 .at2 .ensures) (at-two .two .ensures .0) (at-wide2 .wide2 .ensures .0 ∙ at-at3 .at3 .ensures)
 
 pub enter-spec : {M : Type 1} → statement M
@@ -90,6 +94,7 @@ enter-spec =
     add-at-2
     at-requires-3
     wide-requires-2
+    body-length-requires
     add-enqueue
     add-enqueue-2
     enqueue-requires

@@ -1,4 +1,4 @@
--- `seat` meets its contract: seven stores, of what the bytes say. Assumes nothing.
+-- `seat` meets its contract: eight stores, of what the bytes say. Assumes nothing.
 use borrow.Author.Needs.{needs}
 use Rattle.loading.specs.Fills.{seated}
 use Rattle.loading.proofs.read.seat.Statement.{statement}
@@ -46,9 +46,17 @@ at-requires-4 c κs = search needs
 tell-requires : tie.Need-tell-requires
 tell-requires c κs = search needs
 
+parent-requires : tie.Need-parent-requires
+parent-requires c κs = search needs
+
+raise-requires : tie.Need-raise-requires
+raise-requires c κs = search needs
+
 returns : tie.Need-returns
 returns c =
-    let at-word2 = c .before .before .before .before in
+    let at-tell = c .before .before .before in
+    let at-at4 = at-tell .before in
+    let at-word2 = at-at4 .before .before .before in
     let at-at3 = at-word2 .before in
     let at-stand = at-at3 .before in
     let at-at2 = at-stand .before in
@@ -58,15 +66,16 @@ returns c =
     let start = at-name .before .before .before in
     let a = start .args in
     let k = start .pre in
-    seated (k .2) (k .1) (a .image .now) (a .o) (at-name .name .ensures) (at-stand .stand .ensures) (c .tell .ensures)
+    seated (k .2) (k .1) (a .row) (a .image .now) (a .o) (at-name .name .ensures) (at-stand .stand .ensures) (at-tell .tell .ensures) (c .raise .ensures)
     (λ i. record {
       number = a .n .0;
       standing = (at-at2 .at2 .ensures) i;
       partner = (at-at .at .ensures) i;
       word = (at-word .word .ensures) i;
-      code = (c .before .at4 .ensures) i;
+      code = (at-at4 .at4 .ensures) i;
       who = (at-at3 .at3 .ensures) i;
       answer = (at-word2 .word2 .ensures) i;
+      parent = (c .before .parent .ensures) i;
     })
 
 pub seat-spec : {M : Type 1} → statement M
@@ -87,4 +96,6 @@ seat-spec =
     add-at-3
     at-requires-4
     tell-requires
+    parent-requires
+    raise-requires
     returns)

@@ -1,9 +1,8 @@
--- `row_of` meets its contract: the entry of an edition is the table's, and none behind the newest has one.
-use mathlib.Core.Path.{refl, sym, ap}
-use Prim.Native.Nat.{ℕ}
+-- `row_of` meets its contract: the entries of an edition are the tables', and none behind the newest has any.
+use mathlib.Core.Path.{refl, sym}
 use native.Mathlib.Omega.{arith}
-use Rattle.saving.specs.Format.{queuesOf}
-use Rattle.saving.specs.Editions.{past}
+use Rattle.saving.specs.Format.{queuesOf, parentsOf}
+use Rattle.saving.specs.Editions.{past, past-parents}
 use borrow.Author.Needs.{needs}
 use Rattle.saving.proofs.format.row_of.Statement.{statement}
 use Rattle.saving.proofs.format.row_of.Tie as tie
@@ -11,14 +10,19 @@ use Rattle.saving.proofs.format.row_of.Tie as tie
 returns : tie.Need-returns
 returns c =
     let e = c .before .args .edition in
-    ap (λ (n : ℕ). record { edition = e; queues = n }) (sym (past e (omega arith)))
+    let a = sym (past e (omega arith)) in
+    let b = sym (past-parents e (omega arith)) in
+    λ i. record { edition = e; queues = a i; parents = b i }
 
 array-read-t7 : tie.Need-array-read-t7
 array-read-t7 c = search needs
 
+array-read-t2 : tie.Need-array-read-t2
+array-read-t2 c = search needs
+
 returns-2 : tie.Need-returns-2
-unfolding queuesOf
+unfolding queuesOf parentsOf
 returns-2 c = refl
 
 pub row-of-spec : {M : Type 1} → statement M
-row-of-spec = tie.close (tie.spec returns array-read-t7 returns-2)
+row-of-spec = tie.close (tie.spec returns array-read-t7 array-read-t2 returns-2)

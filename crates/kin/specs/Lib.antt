@@ -1,0 +1,4 @@
+pub mod Climb
+pub mod Turns
+pub mod Family
+pub mod Carried
