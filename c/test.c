@@ -12,6 +12,12 @@
 
 enum { EDGE = 64, LARGEST = 66000, ROOM = RUMQATISS_LONGEST_IMAGE + 16, MARK = 0xA6 };
 
+enum {
+    PLACES = 64,      /* how many threads can live */
+    OLD_PLACES = 32,  /* how many could in images of the older editions, and still can */
+    EDITION = 4       /* of the images that are written */
+};
+
 /* ---- what is lent to a call */
 
 /* Bytes between two edges, and what they must be after the call. */
@@ -243,6 +249,12 @@ static size_t contents_end(struct part im) { return contents_of(im) + 4 * (size_
 /* How long a body is without its inbox: the parent came with edition 3. */
 static size_t body_length(struct part im) { return im.at[0] < 3 ? 13 : 14; }
 
+/* Where the body of the thread begins that is this one in the contents. */
+static size_t body_at(struct part im, size_t nth) {
+    const uint8_t *entry = im.at + contents_of(im) + 4 * nth;
+    return entry[2] | (size_t)entry[3] << 8;
+}
+
 /* Whether somebody waits for the clock or, from edition 2 on, at a device: the head counts them up to the length at its end. */
 static int somebody_waits(struct part im) {
     for (size_t i = 5; i < contents_of(im) - 2; i++) {
@@ -335,9 +347,9 @@ static void load_row(char **f) {
     else try_update(im, ROOM, update, halt, none);
     if (code != RUMQATISS_DONE) return;
     /* every thread that the image's contents name */
-    for (size_t i = contents_of(im); i < contents_end(im); i += 4) {
-        size_t body = im.at[i + 2] | (size_t)im.at[i + 3] << 8;
-        try_look_up(im, im.at[i + 1], RUMQATISS_DONE, (uint16_t)body, (uint16_t)(body_length(im) + im.at[body + 12]));
+    for (size_t i = 0; i < im.at[3]; i++) {
+        size_t body = body_at(im, i);
+        try_look_up(im, im.at[contents_of(im) + 4 * i + 1], RUMQATISS_DONE, (uint16_t)body, (uint16_t)(body_length(im) + im.at[body + 12]));
     }
 }
 
@@ -394,7 +406,7 @@ static void try_table(const char *name, const char *path, int columns, void row(
 
 /* ---- the traces */
 
-static const uint8_t fresh_bytes[56] = { 3, 253, 255, [54] = 56 };
+static const uint8_t fresh_bytes[56] = { EDITION, 253, 255, [54] = 56 };
 static const struct part fresh = { fresh_bytes, sizeof fresh_bytes };
 static const uint8_t lengths[10] = RUMQATISS_RECORD_LENGTHS;
 
@@ -477,7 +489,7 @@ static void try_traces(const char *path, char **logs, int n) {
 
 /* ---- what no table has */
 
-static const uint8_t first_bytes[74] = { 3, 0, 0, 1, [54] = 74, [58] = 60, [60] = 1, 255, [67] = 255, [73] = 255 };
+static const uint8_t first_bytes[74] = { EDITION, 0, 0, 1, [54] = 74, [58] = 60, [60] = 1, 255, [67] = 255, [73] = 255 };
 static const struct part first = { first_bytes, sizeof first_bytes };
 static const struct chosen run_0 = { RUMQATISS_RUN, 0 }, wait = { RUMQATISS_WAIT, RUMQATISS_NOBODY };
 
@@ -549,7 +561,7 @@ static void try_refusals(void) {
    and 3. They join ready in the order of these groups. From then on nobody can listen for it. */
 static void try_end(void) {
     static char log[] = "010101010101" "0305" "020544332211" "0205efbeadde" "0305" "07" "0302" "07", end[] = "0505", receive[] = "0305";
-    static char ended[] = "030504050400" "000000000000000000000000000000000000000000000000"
+    static char ended[] = "040504050400" "000000000000000000000000000000000000000000000000"
                           "000000000000000000000000000000000000000000000000" "9600"
                           "00005000" "01015e00" "02026c00" "03037a00" "04048800" "01020003"
                           "02ff00000000" "100500000000" "00ff" "02ff00000000" "100544332211" "0000" "02ff00000000" "1005efbeadde" "0000"
@@ -573,12 +585,12 @@ static void try_end(void) {
 static void try_family(void) {
     static char log[] = "0101010101" "0301" "0101" "07" "020644332211" "0205efbeadde" "07" "01" "06" "0302" "0205785634f2" "07" "0307" "0921";
     static char end_1[] = "0501", end_5[] = "0505";
-    static char ended_1[] = "030704040300" "000000000000000000000000000000000000000000000000"
+    static char ended_1[] = "040704040300" "000000000000000000000000000000000000000000000000"
                             "000000000000000000000000000000000000000000000000" "8300"
                             "00004b00" "02025900" "03036700" "04047500" "030200"
                             "02ff00000000" "100100000000" "00ff" "02ff00000000" "100644332211" "0000" "02ff00000000" "1005efbeadde" "0000"
                             "01ff00000000" "100700000000" "0000";
-    static char ended_5[] = "030701060300" "000000000000000000000000000000000000000000000000"
+    static char ended_5[] = "040701060300" "000000000000000000000000000000000000000000000000"
                             "000000000000000000000000000000000000000000000000" "a700"
                             "00005300" "01016100" "02026f00" "03037d00" "04048b00" "06069900" "040306"
                             "050100000000" "00ff00000000" "00ff" "01ff00000000" "00ff00000000" "0000" "040644332211" "00ff00000000" "0000"
@@ -592,38 +604,137 @@ static void try_family(void) {
     try_board(before, bytes_in(end_5), ROOM, MARK, RUMQATISS_DONE, run_1, RUMQATISS_NOBODY, bytes_in(ended_5));
 }
 
-/* Threads 0 to n - 1, of which each was created by the one before it, which then went to wait for the clock. The last number given is 31.
-   Where the last thread runs it does not wait with the others. */
-static struct part chain(uint8_t b[RUMQATISS_LONGEST_IMAGE], uint8_t n, int runs) {
-    uint8_t waiting = (uint8_t)(n - runs);
-    size_t bodies = 56 + 4 * (size_t)n + waiting, all = bodies + 14 * (size_t)n;
-    memset(b, 0, all);
-    memcpy(b, (uint8_t[6]){ 3, 31, runs ? n - 1 : 255, n, 0, waiting }, 6);
-    b[54] = (uint8_t)all;
-    b[55] = (uint8_t)(all >> 8);
-    for (uint8_t i = 0; i < n; i++) {
-        size_t body = bodies + 14 * (size_t)i;
-        memcpy(b + 56 + 4 * i, (uint8_t[4]){ i, i, (uint8_t)body, (uint8_t)(body >> 8) }, 4);
-        if (i < waiting) b[56 + 4 * n + i] = i;
-        b[body] = i < waiting ? 6 : 1;
-        b[body + 1] = b[body + 7] = 255;
-        b[body + 13] = i == 0 ? 255 : i - 1;
-    }
-    return (struct part){ b, all };
+/* ---- images that are made here */
+
+static void put_number(uint8_t *at, size_t n) {
+    at[0] = (uint8_t)n;
+    at[1] = (uint8_t)(n >> 8);
 }
 
-/* The longest line of parents, 32 threads: the end of any of them ends all behind it too. The end of the first is what goes deepest, so that
+/* An image of threads 0 to n - 1, each in the place of its number, with room for so many places in the queues. The queues, how long each is, and the
+   standings are still to be filled in. Nobody runs or has a partner or a parent, and the last number given is that of the last place. */
+static struct part lay_out(uint8_t b[RUMQATISS_LONGEST_IMAGE], uint8_t edition, uint8_t n, size_t queued) {
+    struct part im = { b, 0 };
+    b[0] = edition;
+    size_t contents = contents_of(im), one = body_length(im), bodies = contents + 4 * (size_t)n + queued;
+    im.len = bodies + one * n;
+    memset(b, 0, im.len);
+    memcpy(b, (uint8_t[4]){ edition, PLACES - 1, RUMQATISS_NOBODY, n }, 4);
+    put_number(b + contents - 2, im.len);
+    for (uint8_t i = 0; i < n; i++) {
+        uint8_t *entry = b + contents + 4 * i, *body = b + bodies + one * i;
+        entry[0] = entry[1] = i;
+        put_number(entry + 2, (size_t)(body - b));
+        body[1] = body[7] = RUMQATISS_NOBODY;
+        if (one > 13) body[13] = RUMQATISS_NOBODY;
+    }
+    return im;
+}
+
+/* As many creates from fresh, in edition 3 or a later one: thread 0 runs, and is the parent of all others, which are ready. */
+static struct part created(uint8_t b[RUMQATISS_LONGEST_IMAGE], uint8_t edition, uint8_t n) {
+    uint8_t ready = n == 0 ? 0 : n - 1;
+    struct part im = lay_out(b, edition, n, ready);
+    b[1] = n == 0 ? 253 : n - 1;
+    b[2] = n == 0 ? RUMQATISS_NOBODY : 0;
+    b[4] = ready;
+    for (uint8_t i = 0; i < n; i++) {
+        uint8_t *body = b + body_at(im, i);
+        body[0] = i == 0 ? 1 : 2;
+        if (i > 0) body[13] = 0;
+        if (i > 0) b[contents_end(im) + i - 1] = i;
+    }
+    return im;
+}
+
+/* Threads of which each was created by the one before it, which then went to wait for the clock. Where the last thread runs it does not wait with the
+   others. */
+static struct part chain(uint8_t b[RUMQATISS_LONGEST_IMAGE], uint8_t n, int runs) {
+    uint8_t waiting = (uint8_t)(n - runs);
+    struct part im = lay_out(b, EDITION, n, waiting);
+    if (runs) b[2] = n - 1;
+    b[5] = waiting;
+    for (uint8_t i = 0; i < n; i++) {
+        uint8_t *body = b + body_at(im, i);
+        body[0] = i < waiting ? 6 : 1;
+        if (i > 0) body[13] = i - 1;
+        if (i < waiting) b[contents_end(im) + i] = i;
+    }
+    return im;
+}
+
+/* The byte of an image, beside its contents, that names the place of thread 1. */
+enum named { NOWHERE, IN_READY, AT_CLOCK, AT_DEVICE, IN_INBOX, AS_RUNNING };
+
+/* Threads 0, in place 0, and 1, in another place. Beside the contents one more byte may name that place: `at` becomes where it stands. Thread 0 runs, and
+   thread 1 awaits its reply, is ready, waits for the clock, waits at device 33 or sends to it; or thread 1 runs, and 0 is ready. */
+static struct part pair_in(uint8_t b[RUMQATISS_LONGEST_IMAGE], uint8_t edition, uint8_t place, enum named by, size_t *at) {
+    static const uint8_t standings[] = { 4, 2, 6, 7, 3, 1 }, partners[] = { 0, 255, 255, 33, 0, 255 };
+    struct part im = lay_out(b, edition, 2, by != NOWHERE && by != IN_INBOX);
+    size_t contents = contents_of(im), second = body_at(im, 1);
+    uint8_t *body = b + body_at(im, 0);
+    body[0] = by == AS_RUNNING ? 2 : 1;
+    if (by == IN_INBOX) {
+        memmove(b + second + 1, b + second, im.len++ - second);
+        *at = second++;
+        body[12] = 1;
+        put_number(b + contents - 2, im.len);
+        put_number(b + contents + 6, second);
+    } else {
+        *at = by == AS_RUNNING ? 2 : contents_end(im);
+    }
+    b[second] = standings[by];
+    b[second + 1] = partners[by];
+    b[2] = 0;
+    b[4] = by == IN_READY || by == AS_RUNNING;
+    if (by == AT_CLOCK) b[5] = 1;
+    if (by == AT_DEVICE) b[6 + 33] = 1;
+    if (by != NOWHERE) b[*at] = place;
+    b[contents + 4] = place;
+    return im;
+}
+
+/* ---- what is tried on them */
+
+/* Creates one by one, until all places are filled and one more is refused. From an image of the edition before, which holds fewer places, they go on as
+   well. Then whoever is in a place ends, and the next thread gets that place, with a number that nobody had yet. */
+static void try_creates(void) {
+    static const uint8_t create = RUMQATISS_CREATE;
+    struct part rec = { &create, 1 };
+    uint8_t b[2][RUMQATISS_LONGEST_IMAGE];
+    for (line = 0; line < PLACES; line++) {
+        uint8_t n = (uint8_t)line;
+        struct part after = created(b[1], EDITION, n + 1);
+        try_board(created(b[0], EDITION, n), rec, ROOM, MARK, RUMQATISS_DONE, run_0, n, after);
+        if (n <= OLD_PLACES) try_board(created(b[0], EDITION - 1, n), rec, ROOM, MARK, RUMQATISS_DONE, run_0, n, after);
+    }
+    struct part full = created(b[0], EDITION, PLACES);
+    try_board(full, rec, ROOM, MARK, RUMQATISS_FULL, run_0, RUMQATISS_NOBODY, none);
+    try_board(full, rec, 0, MARK, RUMQATISS_FULL, run_0, RUMQATISS_NOBODY, none);
+    try_replay(full, rec, ROOM, RUMQATISS_DONE, run_0, 1, 1, full);
+    for (line = 1; line < PLACES; line++) {
+        uint8_t n = (uint8_t)line, log[] = { RUMQATISS_END, n, RUMQATISS_CREATE };
+        struct part after = created(b[1], EDITION, PLACES);
+        uint8_t *ready = b[1] + contents_end(after);
+        b[1][1] = b[1][contents_of(after) + 4 * n + 1] = PLACES;
+        memmove(ready + n - 1, ready + n, PLACES - 1 - n);
+        ready[PLACES - 2] = n;
+        try_replay(full, (struct part){ log, sizeof log }, ROOM, RUMQATISS_DONE, run_0, 2, sizeof log, after);
+    }
+}
+
+/* The longest line of parents, in all places: the end of any of them ends all behind it too. The end of the first is what goes deepest, so that
    the stack which that takes is measured here. */
 static void try_chain(void) {
-    uint8_t b[2][RUMQATISS_LONGEST_IMAGE], log[1 + 2 * 31] = { RUMQATISS_CREATE }, end[2] = { RUMQATISS_END, 0 };
-    struct part before = chain(b[0], 32, 1);
-    for (int i = 0; i < 31; i++) {
+    uint8_t b[2][RUMQATISS_LONGEST_IMAGE], log[1 + 2 * (PLACES - 1)] = { RUMQATISS_CREATE }, end[2] = { RUMQATISS_END, 0 };
+    struct part before = chain(b[0], PLACES, 1);
+    for (int i = 0; i < PLACES - 1; i++) {
         log[1 + 2 * i] = RUMQATISS_CREATE;
         log[2 + 2 * i] = RUMQATISS_WAIT_CLOCK;
     }
     line = 0;
     try_replay(fresh, (struct part){ log, sizeof log }, ROOM, RUMQATISS_DONE, choice_of(before), sizeof log, sizeof log, before);
-    for (line = 0; line < 32; line++) {
+    for (line = 0; line < PLACES; line++) {
         struct part rec = { end, 2 }, after = chain(b[1], (uint8_t)line, 0);
         end[1] = (uint8_t)line;
         try_board(before, rec, ROOM, MARK, RUMQATISS_DONE, choice_of(after), RUMQATISS_NOBODY, after);
@@ -643,7 +754,7 @@ static void try_refused(struct part im) {
 /* Every byte as the parent of thread 0: in a pair where 1 has no parent, in one where 0 is the parent of 1, and in the longest line, where
    each thread is the parent of the next. A parent that does not live, a thread that is its own parent, and a ring get 10. */
 static void try_parents(void) {
-    static const uint8_t threads[3] = { 2, 2, 32 };
+    static const uint8_t threads[3] = { 2, 2, PLACES };
     uint8_t b[RUMQATISS_LONGEST_IMAGE];
     for (int n = 0; n < 3; n++) {
         struct part im = chain(b, threads[n], 1);
@@ -657,13 +768,49 @@ static void try_parents(void) {
     }
 }
 
+/* Every byte as the place of a thread, in every edition: the place is one that the edition holds, or the image gets 10, whatever else names the place. And
+   where only one byte names another place than the contents, it gets 10 too. */
+static void try_places(void) {
+    uint8_t b[2][RUMQATISS_LONGEST_IMAGE];
+    size_t at;
+    for (uint8_t edition = 1; edition <= EDITION; edition++) {
+        int places = edition < EDITION ? OLD_PLACES : PLACES;
+        for (enum named by = NOWHERE; by <= AS_RUNNING; by++) {
+            if (edition == 1 && by == AT_DEVICE) continue;
+            for (line = 1; line <= 255; line++) {
+                struct part im = pair_in(b[0], edition, (uint8_t)line, by, &at);
+                if (line >= places) {
+                    try_refused(im);
+                    continue;
+                }
+                try_updated(im, pair_in(b[1], EDITION, (uint8_t)line, by, &at));
+                try_look_up(im, 1, RUMQATISS_DONE, (uint16_t)body_at(im, 1), (uint16_t)body_length(im));
+            }
+            if (by == NOWHERE) continue;
+            struct part im = pair_in(b[0], edition, OLD_PLACES - 1, by, &at);
+            for (line = 0; line <= 255; line++) {
+                if (line == OLD_PLACES - 1) continue;
+                b[0][at] = (uint8_t)line;
+                try_refused(im);
+            }
+        }
+    }
+    /* the longest line of parents that the edition before holds keeps its parents, and one that is longer is refused */
+    struct part im = chain(b[0], OLD_PLACES, 1);
+    b[0][0] = EDITION - 1;
+    try_updated(im, chain(b[1], OLD_PLACES, 1));
+    im = chain(b[0], OLD_PLACES + 1, 1);
+    b[0][0] = EDITION - 1;
+    try_refused(im);
+}
+
 /* The last number given is 253, and thread 0 lives alone: a create gives 1, but where the thread's answer names 1, it gives 2. */
 static void try_named(void) {
     static const uint8_t create = RUMQATISS_CREATE, answers[2][6] = { { 0, 255 }, { 16, 1, 0x0d, 0xf0, 0xad, 0x8b } };
     struct part rec = { &create, 1 };
     for (line = 0; line < 2; line++) {
-        uint8_t given = (uint8_t)(1 + line), alone[74] = { 3, 253, 0, 1, [54] = 74, [58] = 60, [60] = 1, 255, [73] = 255 };
-        uint8_t pair[93] = { 3, given, 0, 2, 1, [54] = 93, [58] = 65, [60] = 1, given, 79, [64] = 1, 1, 255, [78] = 255, 2, 255, [86] = 255 };
+        uint8_t given = (uint8_t)(1 + line), alone[74] = { EDITION, 253, 0, 1, [54] = 74, [58] = 60, [60] = 1, 255, [73] = 255 };
+        uint8_t pair[93] = { EDITION, given, 0, 2, 1, [54] = 93, [58] = 65, [60] = 1, given, 79, [64] = 1, 1, 255, [78] = 255, 2, 255, [86] = 255 };
         struct part before = { alone, sizeof alone }, after = { pair, sizeof pair };
         memcpy(alone + 66, answers[line], 6);
         memcpy(pair + 71, answers[line], 6);
@@ -674,8 +821,8 @@ static void try_named(void) {
 
 /* The first thread waits at a device, which then interrupts. */
 static void try_devices(void) {
-    static const uint8_t waiting_bytes[75] = { 3, 0, 255, 1, [6 + 33] = 1, [54] = 75, [58] = 61, [61] = 7, 33, [68] = 255, [74] = 255 };
-    static const uint8_t served_bytes[74] = { 3, 0, 0, 1, [54] = 74, [58] = 60, [60] = 1, 255, [67] = 255, 5, [73] = 255 };
+    static const uint8_t waiting_bytes[75] = { EDITION, 0, 255, 1, [6 + 33] = 1, [54] = 75, [58] = 61, [61] = 7, 33, [68] = 255, [74] = 255 };
+    static const uint8_t served_bytes[74] = { EDITION, 0, 0, 1, [54] = 74, [58] = 60, [60] = 1, 255, [67] = 255, 5, [73] = 255 };
     static const uint8_t waits[] = { RUMQATISS_WAIT_DEVICE, RUMQATISS_RECEIVER(0) }, unknown = RUMQATISS_INTERRUPT + 1;
     static const uint8_t log[] = { RUMQATISS_CREATE, RUMQATISS_WAIT_DEVICE, 33, RUMQATISS_INTERRUPT, 0, 0, 0, 0, 2, 0, 5, 0, 0, 0 };
     static struct { char record[24]; int is_served; } rows[] = {
@@ -708,23 +855,27 @@ _Static_assert(RUMQATISS_DEVICE(3, 0) == 0 && RUMQATISS_DEVICE(3, 7) == 7 && RUM
 _Static_assert(RUMQATISS_DEVICE(6, 7) == 31 && RUMQATISS_TRANSMITTER(0) == 32 && RUMQATISS_RECEIVER(0) == 33, "terminals");
 _Static_assert(RUMQATISS_TRANSMITTER(7) == 46 && RUMQATISS_RECEIVER(7) == 47 && RUMQATISS_DEVICES == 48, "the last terminal");
 
-/* Images of editions 1 and 2 are taken, and what comes of them is of edition 3. Nobody in them has a parent, so an end ends one thread. */
+/* Images of editions 1 to 3 are taken, and what comes of them is of edition 4. Nobody in these has a parent, so an end ends one thread. */
 static void try_editions(void) {
-    static const uint8_t old_fresh[2][56] = { { 1, 253, 255, 0, 0, 0, 8, 0 }, { 2, 253, 255, [54] = 56 } };
+    static const uint8_t old_fresh[3][56] = { { 1, 253, 255, 0, 0, 0, 8, 0 }, { 2, 253, 255, [54] = 56 }, { 3, 253, 255, [54] = 56 } };
     static char first_pair[] = "010100020100" "2b00" "00001100" "01011e00" "01" "01ff00000000" "00ff00000000" "00" "02ff00000000" "00ff00000000" "00";
     static char second_pair[] = "020100020100" "000000000000000000000000000000000000000000000000"
                                 "000000000000000000000000000000000000000000000000" "5b00" "00004100" "01014e00" "01"
                                 "01ff00000000" "00ff00000000" "00" "02ff00000000" "00ff00000000" "00";
-    static char pair[] = "030100020100" "000000000000000000000000000000000000000000000000"
+    static char third_pair[] = "030100020100" "000000000000000000000000000000000000000000000000"
+                               "000000000000000000000000000000000000000000000000" "5d00" "00004100" "01014f00" "01"
+                               "01ff00000000" "00ff00000000" "00ff" "02ff00000000" "00ff00000000" "00ff";
+    static char pair[] = "040100020100" "000000000000000000000000000000000000000000000000"
                          "000000000000000000000000000000000000000000000000" "5d00" "00004100" "01014f00" "01"
                          "01ff00000000" "00ff00000000" "00ff" "02ff00000000" "00ff00000000" "00ff";
-    static char left[] = "030101010000" "000000000000000000000000000000000000000000000000"
+    static char left[] = "040101010000" "000000000000000000000000000000000000000000000000"
                          "000000000000000000000000000000000000000000000000" "4a00" "01013c00" "01ff00000000" "00ff00000000" "00ff";
     static const uint8_t tick = RUMQATISS_TICK, end[] = { RUMQATISS_END, 0 };
     uint8_t b[RUMQATISS_LONGEST_IMAGE];
-    struct part old[2] = { bytes_in(first_pair), bytes_in(second_pair) }, now = bytes_in(pair), alone = bytes_in(left), changed = { b, 0 };
+    struct part old[3] = { bytes_in(first_pair), bytes_in(second_pair), bytes_in(third_pair) };
+    struct part now = bytes_in(pair), alone = bytes_in(left), changed = { b, 0 };
     struct chosen run_1 = { RUMQATISS_RUN, 1 };
-    for (int i = 0; i < 2; i++) {
+    for (int i = 0; i < 3; i++) {
         line = i + 1;
         try_updated((struct part){ old_fresh[i], i == 0 ? 8 : 56 }, fresh);
         try_replay((struct part){ old_fresh[i], i == 0 ? 8 : 56 }, none, ROOM, RUMQATISS_DONE, halt, 0, 0, fresh);
@@ -735,16 +886,16 @@ static void try_editions(void) {
     }
     try_look_up(old[0], 1, RUMQATISS_DONE, 30, 13);
     try_look_up(old[1], 1, RUMQATISS_DONE, 78, 13);
+    try_look_up(old[2], 1, RUMQATISS_DONE, 79, 14);
     try_look_up(now, 1, RUMQATISS_DONE, 79, 14);
     /* nobody waits at a device in edition 1 */
     memcpy(b, old[0].at, changed.len = old[0].len);
     b[30] = 7;
     b[31] = 33;
     try_board(changed, (struct part){ &tick, 1 }, ROOM, MARK, RUMQATISS_NO_IMAGE, halt, RUMQATISS_NOBODY, none);
-    /* a body of edition 2 is none of edition 3, nor the other way round: their heads are alike, and only the edition says which it is */
+    /* a body of edition 2 is none of a later edition, nor the other way round: their heads are alike, and only the edition says which it is */
     memcpy(b, old[1].at, changed.len = old[1].len);
-    b[0] = 3;
-    try_refused(changed);
+    for (b[0] = 3; b[0] <= EDITION; b[0]++) try_refused(changed);
     memcpy(b, now.at, changed.len = now.len);
     b[0] = 2;
     try_refused(changed);
@@ -753,7 +904,7 @@ static void try_editions(void) {
     for (line = 0; line <= 255; line++) {
         b[0] = (uint8_t)line;
         for (changed.len = 0; changed.len < fresh.len; changed.len++) {
-            int is_length = changed.len < 8 || (line >= 1 && line <= 3);
+            int is_length = changed.len < 8 || (line >= 1 && line <= EDITION);
             try_look_up(changed, 0, is_length ? RUMQATISS_BAD_LENGTH : RUMQATISS_OTHER_EDITION, 0, 0);
             try_update(changed, ROOM, is_length ? RUMQATISS_BAD_LENGTH : RUMQATISS_OTHER_EDITION, halt, none);
         }
@@ -768,18 +919,20 @@ static void try_listener(void) {
                                  "000000000000000000000000000000000000000000000000" "4900" "00003c00" "05ff00000000" "00ff00000000" "00";
     static char third_image[] = "0300ff010000" "000000000000000000000000000000000000000000000000"
                                 "000000000000000000000000000000000000000000000000" "4a00" "00003c00" "05ff00000000" "00ff00000000" "00ff";
-    struct part im[3] = { bytes_in(first_image), bytes_in(second_image), bytes_in(third_image) };
-    uint8_t listens[3][sizeof first_bytes], woken[sizeof first_bytes];
+    static char fourth_image[] = "0400ff010000" "000000000000000000000000000000000000000000000000"
+                                 "000000000000000000000000000000000000000000000000" "4a00" "00003c00" "05ff00000000" "00ff00000000" "00ff";
+    struct part im[EDITION] = { bytes_in(first_image), bytes_in(second_image), bytes_in(third_image), bytes_in(fourth_image) };
+    uint8_t listens[EDITION][sizeof first_bytes], woken[sizeof first_bytes];
     memcpy(woken, first_bytes, sizeof woken);
     woken[66] = 16;
     for (line = 0; line <= 255; line++) {
         woken[67] = (uint8_t)line;
-        for (int i = 0; i < 3; i++) {
+        for (int i = 0; i < EDITION; i++) {
             struct part by = { listens[i], im[i].len };
             memcpy(listens[i], im[i].at, im[i].len);
             listens[i][im[i].len - body_length(im[i]) + 1] = (uint8_t)line;
             if (line == RUMQATISS_NOBODY) {
-                try_updated(by, im[2]);
+                try_updated(by, im[EDITION - 1]);
                 continue;
             }
             try_replay(by, none, ROOM, RUMQATISS_NO_IMAGE, halt, 0, 0, none);
@@ -810,7 +963,7 @@ static void try_listeners(void) {
                            "030401020384" "00ff00000000" "00" "02ff00000000" "00ff07000000" "00" "040489efcdab" "100a77665544" "00"
                            "05ff00000000" "00ff00000000" "00" "072000000000" "000901000000" "00" "050900000000" "00ff00000000" "00"
                            "06ff00000000" "00ff00000000" "00";
-    static char after[] = "03fd000a0301" "000000000000000000000000000000000000000000000000"
+    static char after[] = "04fd000a0301" "000000000000000000000000000000000000000000000000"
                           "000000000000000001000000000000000000000000000000" "f200"
                           "00096500" "01047300" "02028200" "03089000" "04019e00" "0503ac00" "0607ba00" "0705c800" "080bd600" "1f06e400"
                           "040102" "1f" "07" "01ff00000000" "00ff00000000" "00ff"
@@ -822,77 +975,91 @@ static void try_listeners(void) {
     try_updated(bytes_in(before), bytes_in(after));
 }
 
-/* 32 threads, and each receives from a number of its own that nobody has: all are woken, and the first runs. */
+/* As many threads as an edition holds, and each receives from a number of its own that nobody has: all are woken, and the first runs. */
 static void try_all_listen(void) {
-    uint8_t before[56 + 32 * 17] = { 2, 31, 255, 32, [54] = 600 & 255, 600 >> 8 };
-    uint8_t after[56 + 32 * 18 + 31] = { 3, 31, 0, 32, 31, [54] = 663 & 255, 663 >> 8 };
-    for (uint8_t i = 0; i < 32; i++) {
-        uint16_t body = (uint16_t)(56 + 32 * 4 + 13 * i), later = (uint16_t)(56 + 32 * 4 + 31 + 14 * i);
-        uint8_t entry[2][4] = { { i, i, (uint8_t)body, (uint8_t)(body >> 8) }, { i, i, (uint8_t)later, (uint8_t)(later >> 8) } };
-        memcpy(before + 56 + 4 * i, entry[0], 4);
-        memcpy(after + 56 + 4 * i, entry[1], 4);
-        before[body] = 5;
-        before[body + 1] = (uint8_t)(100 + i);
-        before[body + 7] = 255;
-        if (i > 0) after[56 + 32 * 4 + i - 1] = i;
-        after[later] = i == 0 ? 1 : 2;
-        after[later + 1] = 255;
-        after[later + 6] = 16;
-        after[later + 7] = (uint8_t)(100 + i);
-        after[later + 13] = 255;
+    uint8_t b[2][RUMQATISS_LONGEST_IMAGE];
+    for (line = 1; line <= EDITION; line++) {
+        uint8_t n = line < EDITION ? OLD_PLACES : PLACES;
+        struct part before = lay_out(b[0], (uint8_t)line, n, 0), after = lay_out(b[1], EDITION, n, n - 1);
+        b[1][2] = 0;
+        b[1][4] = n - 1;
+        for (uint8_t i = 0; i < n; i++) {
+            uint8_t *listens = b[0] + body_at(before, i), *woken = b[1] + body_at(after, i);
+            listens[0] = 5;
+            listens[1] = woken[7] = 100 + i;
+            woken[0] = i == 0 ? 1 : 2;
+            woken[6] = 16;
+            if (i > 0) b[1][contents_end(after) + i - 1] = i;
+        }
+        try_updated(before, after);
     }
-    line = 0;
-    try_updated((struct part){ before, sizeof before }, (struct part){ after, sizeof after });
 }
 
-/* The longest log of 32 threads that wait: they are woken, all by a tick or each by its device, and wait again; at last slice ends,
-   while nobody runs. How many records that is. */
-static uint32_t fill_log(uint8_t log[RUMQATISS_LONGEST_LOG], int at_devices) {
-    uint32_t count = 0;
+/* Each thread in turn is served by its device, and waits there again. Where two wait at one device both are served, so that they stand in the same order as
+   before. How many bytes that is. */
+static size_t put_served(uint8_t *log) {
     size_t at = 0;
-    memset(log, 0, RUMQATISS_LONGEST_LOG);
-    for (int i = 0; at + 33 <= RUMQATISS_LONGEST_LOG; i = (i + 1) % 32) {
-        if (at_devices) {
-            log[at] = RUMQATISS_INTERRUPT;
-            log[at + 1 + i / 8] = (uint8_t)(1 << i % 8);
-            log[at + 11] = RUMQATISS_WAIT_DEVICE;
-            log[at + 12] = (uint8_t)i;
-        } else {
-            log[at] = RUMQATISS_TICK;
-            memset(log + at + 1, RUMQATISS_WAIT_CLOCK, 32);
-        }
-        count += at_devices ? 2 : 33;
-        at += at_devices ? 13 : 33;
+    for (int i = 0; i < PLACES; i++) {
+        uint8_t device = i % RUMQATISS_DEVICES;
+        memset(log + at, 0, 11);
+        log[at] = RUMQATISS_INTERRUPT;
+        log[at + 1 + device / 8] = (uint8_t)(1 << device % 8);
+        log[at + 11] = RUMQATISS_WAIT_DEVICE;
+        log[at + 12] = device;
+        at += 13;
+    }
+    return at;
+}
+
+/* All are woken by a tick, and wait for the clock again. How many bytes that is. */
+static size_t put_tick(uint8_t *log) {
+    log[0] = RUMQATISS_TICK;
+    memset(log + 1, RUMQATISS_WAIT_CLOCK, PLACES);
+    return 1 + PLACES;
+}
+
+/* The longest log of threads that wait, as many as there are places: they are woken and wait again; at last slice ends, while nobody runs. How many records
+   that is. */
+static uint32_t fill_log(uint8_t log[RUMQATISS_LONGEST_LOG], int at_devices) {
+    size_t round = at_devices ? put_served(log) : put_tick(log), at = 0;
+    uint32_t count = 0;
+    for (; at + round <= RUMQATISS_LONGEST_LOG; at += round) {
+        if (at_devices) put_served(log + at);
+        else put_tick(log + at);
+        count += at_devices ? 2 * PLACES : 1 + PLACES;
     }
     memset(log + at, RUMQATISS_SLICE_END, RUMQATISS_LONGEST_LOG - at);
     return count + (uint32_t)(RUMQATISS_LONGEST_LOG - at);
 }
 
-/* The longest image: 32 threads, all of them waiting, for the clock or each at the device whose index is its number. */
+_Static_assert(RUMQATISS_LONGEST_IMAGE == 56 + PLACES * (4 + 1 + 14), "all places are filled, and whoever is there stands in a queue");
+
+/* The longest image: as many threads as there are places, all of them waiting, for the clock or at the devices. There are fewer devices than places, so
+   those behind the last device begin with the first again. One create more than there are places is refused, and changes nothing. */
 static void try_longest(int at_devices) {
     static const uint8_t create = RUMQATISS_CREATE;
-    uint8_t log[32 * 3], full[RUMQATISS_LONGEST_IMAGE] = { 3, 31, 255, 32, [54] = 664 & 255, 664 >> 8 };
-    size_t n = 32;
+    uint8_t log[3 * PLACES + 1], full[RUMQATISS_LONGEST_IMAGE], queues = at_devices ? RUMQATISS_DEVICES : 1;
+    struct part after = lay_out(full, EDITION, PLACES, PLACES), rec = { &create, 1 };
+    size_t n = PLACES + 1, queue = contents_end(after);
     memset(log, RUMQATISS_CREATE, n);
-    for (uint8_t i = 0; i < 32; i++) {
-        uint16_t body = (uint16_t)(56 + 32 * 4 + 32 + 14 * i);
+    for (uint8_t i = 0; i < PLACES; i++) {
+        uint8_t *body = full + body_at(after, i), device = i % RUMQATISS_DEVICES;
         log[n++] = at_devices ? RUMQATISS_WAIT_DEVICE : RUMQATISS_WAIT_CLOCK;
-        if (at_devices) log[n++] = i;
-        full[at_devices ? 6 + i : 5]++;
-        full[56 + 4 * i] = full[57 + 4 * i] = full[56 + 32 * 4 + i] = i;
-        full[58 + 4 * i] = (uint8_t)body;
-        full[59 + 4 * i] = (uint8_t)(body >> 8);
-        full[body] = at_devices ? 7 : 6;
-        full[body + 1] = at_devices ? i : 255;
-        full[body + 7] = 255;
-        full[body + 13] = i == 0 ? 255 : 0;
+        if (at_devices) log[n++] = device;
+        full[at_devices ? 6 + device : 5]++;
+        body[0] = at_devices ? 7 : 6;
+        if (at_devices) body[1] = device;
+        if (i > 0) body[13] = 0;
     }
-    struct part all = { log, n }, after = { full, sizeof full }, rec = { &create, 1 };
+    for (uint8_t q = 0; q < queues; q++) {
+        for (uint8_t i = q; i < PLACES; i += queues) full[queue++] = i;
+    }
+    struct part all = { log, n };
     line = 0;
-    try_replay(fresh, all, sizeof full, RUMQATISS_DONE, wait, 64, (uint32_t)n, after);
+    try_replay(fresh, all, sizeof full, RUMQATISS_DONE, wait, 2 * PLACES + 1, (uint32_t)n, after);
     try_replay(fresh, all, sizeof full - 1, RUMQATISS_SHORT_BUFFER, halt, 0, 0, none);
     try_board(after, rec, ROOM, MARK, RUMQATISS_FULL, wait, RUMQATISS_NOBODY, none);
-    try_look_up(after, 31, RUMQATISS_DONE, RUMQATISS_LONGEST_IMAGE - 14, 14);
+    try_look_up(after, PLACES - 1, RUMQATISS_DONE, RUMQATISS_LONGEST_IMAGE - 14, 14);
     static uint8_t longest[RUMQATISS_LONGEST_LOG];
     uint32_t count = fill_log(longest, at_devices);
     try_replay(after, (struct part){ longest, sizeof longest }, sizeof full, RUMQATISS_DONE, wait, count, RUMQATISS_LONGEST_LOG, after);
@@ -953,6 +1120,8 @@ int main(int argc, char **argv) {
     try_lengths();
     table = "refusals";
     try_refusals();
+    table = "creates";
+    try_creates();
     table = "end";
     try_end();
     table = "end of a family";
@@ -961,6 +1130,8 @@ int main(int argc, char **argv) {
     try_chain();
     table = "parents";
     try_parents();
+    table = "places";
+    try_places();
     table = "a number that an answer names";
     try_named();
     table = "devices";
@@ -971,7 +1142,7 @@ int main(int argc, char **argv) {
     try_listener();
     table = "update of listeners";
     try_listeners();
-    table = "update of 32 listeners";
+    table = "update of as many listeners as there can be";
     try_all_listen();
     table = "longest image, at the clock";
     try_longest(0);
@@ -981,8 +1152,8 @@ int main(int argc, char **argv) {
     try_large();
     table = "null pointers";
     try_nulls();
-    printf("limits: record lengths, refusals, an end, families, parents, a named number, devices, editions, updates, the longest images, large "
-           "buffers and null pointers agree\n");
+    printf("limits: record lengths, refusals, creates, an end, families, parents, places, a named number, devices, editions, updates, the longest "
+           "images, large buffers and null pointers agree\n");
     if (stack_used() > RUMQATISS_STACK) {
         printf("stack: %d bytes used, %d promised\n", (int)stack_used(), RUMQATISS_STACK);
         return 1;

@@ -1,7 +1,7 @@
 /* The nucleus of the cab terminal, for C: threads, a ready queue, send, receive and reply between them, and devices that interrupt.
 
-   The library keeps nothing between two calls. The whole state of the nucleus is an IMAGE, a few hundred bytes that you
-   keep. One thing that happens is a RECORD, 1 to 11 bytes. You hand over an image and a record, and get the next image.
+   The library keeps nothing between two calls. The whole state of the nucleus is an IMAGE, RUMQATISS_LONGEST_IMAGE bytes at
+   most, that you keep. One thing that happens is a RECORD, 1 to 11 bytes. You hand over an image and a record, and get the next image.
    Records written one behind another are a LOG. An image and the log since give the present image back after a power cut.
    examples/board.c shows the whole of it.
 
@@ -31,20 +31,22 @@
    This is proved of the library's source, and c/test.c tries it on what the compiler made of that. Not proved: that your stack is
    large enough. c/test.c measures what its calls use, which is no more than RUMQATISS_STACK bytes.
 
-   THE IMAGE that is written is of edition 3. Its head has 56 bytes: the edition; the last number given; the running thread's place, or
+   THE IMAGE that is written is of edition 4. Its head has 56 bytes: the edition; the last number given; the running thread's place, or
    255; how many threads live; how many are ready; how many wait for the clock; how many wait at each of the 48 devices, by rising
-   index; and the image's length, in two bytes, the lower first. Four bytes follow for each live thread: its place (0 to 31), its
+   index; and the image's length, in two bytes, the lower first. Four bytes follow for each live thread: its place (0 to 63), its
    number, and in two bytes where its body begins. Then come the places of the ready threads, of those that wait for the clock, of
    those that wait at each device, and the bodies (see rumqatiss_look_up).
    A thread's parent lives, or it has none, and parents never form a ring: from a thread to its parent, from that one to its own, and so
    on, the way ends at one that has none. An image that says otherwise is refused with 10, by rumqatiss_update too.
-   Images of the older editions are taken too. In one of edition 2, as builds with rules 2 to 4 wrote it, nobody has a parent, and its
-   bodies lack that byte. In one of edition 1, as builds with rules 1 wrote it, nobody waits at a device either, and its head lacks the 48
-   counts: it has 8 bytes. The image that comes of either is of edition 3; rumqatiss_replay with an empty log changes nothing else of it.
+   Images of the older editions are taken too. They hold places 0 to 31 only: one that names a place above 31, be it a thread's, in a queue,
+   in an inbox or the running thread's, is refused with 10, by rumqatiss_update too. One of edition 3, as builds with rules 5 wrote it, is
+   otherwise like one of edition 4. In one of edition 2, as builds with rules 2 to 4 wrote it, nobody has a parent, and its bodies lack that
+   byte. In one of edition 1, as builds with rules 1 wrote it, nobody waits at a device either, and its head lacks the 48 counts: it has 8
+   bytes. The image that comes of any of them is of edition 4; rumqatiss_replay with an empty log changes nothing else of it.
    Builds with rules 1 and 2 let a thread receive from a number that no live thread has. An image with such a thread, of any
    edition, is refused with 10 now, by all but rumqatiss_update. Builds with rules 1 to 3 gave a new thread a number that a live
    thread's answer still named, where it came next; images did not change with that. Builds with rules 1 to 4 knew no parents: whoever
-   was created under them has none.
+   was created under them has none. Builds with rules 1 to 5 had places 0 to 31 only, and refused a create with 6 where 32 threads lived.
 
    AN UPDATE, from a build with older rules, goes in this order. docs/UPDATE.md has it for whoever carries it out, and
    examples/update.c is the second and third step.
@@ -52,11 +54,12 @@
      2. The NEW build's rumqatiss_update makes one of its own images of that one.
      3. That image, with an empty log and the new RUMQATISS_RULES, takes the old one's place, all at once.
    In another order loads are lost or mixed up:
-   - The new build replays the old log: an end ended one thread then, and ends its children too now, where the log has their create
-     (rules 1 to 4), so they and their loads are lost; a create may have given another number then than it gives now (rules 1 to 3), and a
-     record that names that number meets nobody, or another thread; a receive from a number that is not live stopped its caller then, and
-     is refused now, and an end wakes more threads now (rules 1 and 2). The records behind such a one happen to whoever runs instead. The
-     code is 0 all the same.
+   - The new build replays the old log: a create with 32 threads live was refused then, and is done now (rules 1 to 5), so there is a thread
+     that never was, which gets turns, and the next number; an end ended one thread then, and ends its children too now, where the log has
+     their create (rules 1 to 4), so they and their loads are lost; a create may have given another number then than it gives now (rules 1 to
+     3), and a record that names that number meets nobody, or another thread; a receive from a number that is not live stopped its caller
+     then, and is refused now, and an end wakes more threads now (rules 1 and 2). The records behind such a one happen to whoever runs
+     instead. The code is 0 all the same.
    - The update comes before the old log is replayed: what the log holds has not happened to the image, and is lost with the log.
    - The old log stays beside the new image: its records happen a second time.
    - The old image is handed to another function than rumqatiss_update: it may get 10. It is not broken, and to begin with
@@ -101,11 +104,11 @@
       4    send, receive, reply, end or look-up: no live thread has this number
            (for receive, 255 is anyone)                                                    board, look_up
       5    reply: the thread does not await the running thread's reply                     board
-      6    create, and 32 threads live                                                     board
+      6    create, and 64 threads live                                                     board
       7    `out` is shorter than the new image                                             board, fresh, replay, update
       8    the image is shorter than its edition's head (under 8 bytes, whatever its
            edition), or is not as long as it says                                          board, replay, look_up, update
-      9    the image's edition is unknown: it is none of 1, 2 and 3                        board, replay, look_up, update
+      9    the image's edition is unknown: it is none of 1, 2, 3 and 4                     board, replay, look_up, update
      10    the image is that of no consistent state (update: nor of one by older rules)    board, replay, look_up, update
      11    the log is longer than 32,768 bytes                                             replay
      12    board: not exactly one record. replay: the last record is cut short             board, replay
@@ -122,14 +125,14 @@
 extern "C" {
 #endif
 
-#define RUMQATISS_LONGEST_IMAGE 664  /* bytes; no buffer need be longer */
+#define RUMQATISS_LONGEST_IMAGE 1272 /* bytes; no buffer need be longer */
 #define RUMQATISS_FRESH_IMAGE 56     /* bytes of the fresh image, the shortest that is written */
 #define RUMQATISS_LONGEST_LOG 32768  /* bytes that rumqatiss_replay takes; save a new image before */
 #define RUMQATISS_LONGEST_RECORD 11  /* bytes */
 #define RUMQATISS_RECORD_LENGTHS { 1, 6, 2, 6, 2, 1, 1, 1, 2, 11 }  /* bytes of a record of kind 1, 2, .. 10 */
 #define RUMQATISS_NOBODY 255         /* no number; in a receive, anyone */
-#define RUMQATISS_RULES 5            /* the number of the rules that this build follows, raised by every later change of the rules */
-#define RUMQATISS_STACK 8080         /* bytes of your stack; a call was never measured to use more */
+#define RUMQATISS_RULES 6            /* the number of the rules that this build follows, raised by every later change of the rules */
+#define RUMQATISS_STACK 17536        /* bytes of your stack; a call was never measured to use more */
 
 /* Thread numbers run from 0 to 253. */
 
@@ -226,8 +229,8 @@ uint8_t rumqatiss_look_up(const uint8_t *image, size_t image_len, uint8_t number
    Each thread in it that receives from a number that is not live, by rising place, gets the answer 16, that number and the word 0,
    and joins the back of ready. Then, where nobody runs, the front of ready does. Nothing else changes but the edition: whoever stood in a
    send still does, in the same place of the same inbox, or awaiting the same reply, with the same word. Where no thread is woken, it
-   is what rumqatiss_replay gives with an empty log. So of an image that a build with rules 3 or 4 left only the edition changes, and
-   each body has the parent 255: nobody is woken.
+   is what rumqatiss_replay gives with an empty log. So of an image that a build with rules 3 to 5 left only the edition changes, and
+   nobody is woken; where the rules were 3 or 4, each body has the parent 255.
    Returns the code. The tests in their order: the image's as above, where 10 does not ask that those whom threads receive from live; 7.
    choice, next  codes 0, 7: of the image after the update. Another code: halt.
    length        of the new image with code 0; else 0, and `out` is as it was. */

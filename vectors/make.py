@@ -1,7 +1,7 @@
 #!/usr/bin/env python3
 """make.py: makes crates/vectors/data/vectors and crates/vectors/stdout of all the tables of vectors in this folder.
 
-A table's kind is the first word of its name, `load` of load-P5-31.tsv. It has a head line, `# inputs > outputs`, and a row a vector, its columns parted by
+A table's kind is the first word of its name, `load` of load-P6-31.tsv. It has a head line, `# inputs > outputs`, and a row a vector, its columns parted by
 tabs. In the data a vector is the byte of its kind and then, with its length in two bytes before it, the row's inputs, field after field, each with its length
 in two bytes before it (numbers in four bytes, little-endian). The output is what the program must print, a line a row, with the kind's word in front.
 

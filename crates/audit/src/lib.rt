@@ -314,10 +314,10 @@ fn every(
 }
 
 // The word of the places where a thread stands.
-pub fn filling(b: &Blocks) -> u32
+pub fn filling(b: &Blocks) -> u64
     ensures { λ r. ⌜ Filled r (now (b .entry)) ⌝ }
 {
-    let mut x: u32 = 0;
+    let mut x: u64 = 0;
     let mut p: u8 = 0;
     while p < LIMIT {
         if b[table::STANDING + p as usize] != EMPTY {

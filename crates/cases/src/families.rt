@@ -1,9 +1,8 @@
 // Document 02's P5: a thread ends with all that it started. And images of edition 3, of which load refuses those whose parents are dead or form a ring; so
 // does the update, since every idea of consistent has these clauses.
 use super::after;
-use super::images::came;
-use super::images::loaded;
 use super::line;
+use super::updates::updated;
 use nucleus::State;
 use rules::Number;
 use rules::Place;
@@ -80,10 +79,4 @@ fn images() {
     let dead =
         b"\x03\x01\0\x02\x01\0\0\0\0\0\0\0\0\0\0\0\0\0\0\0\0\0\0\0\0\0\0\0\0\0\0\0\0\0\0\0\0\0\0\0\0\0\0\0\0\0\0\0\0\0\0\0\0\0\x5d\0\0\0\x41\0\x01\x01\x4f\0\x01\x01\xff\0\0\0\0\0\xff\0\0\0\0\0\xff\x02\xff\0\0\0\0\0\xff\0\0\0\0\0\x07";
     updated(b"the parent of 1 is a dead 7", dead);
-}
-
-// What load and the update make of the bytes.
-fn updated(what: &[u8], image: &[u8]) {
-    loaded(what, image);
-    came(b"    update: ", image::update(image));
 }

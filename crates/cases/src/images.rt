@@ -1,4 +1,4 @@
-// Images that are loaded: those that document 01 counted, which are of edition 1, and some that are refused. What is saved is of edition 3.
+// Images that are loaded: those that document 01 counted, which are of edition 1, and some that are refused. What is saved is of edition 4.
 use super::kept;
 use image::Loaded;
 use nucleus::State;
@@ -31,14 +31,16 @@ fn at_devices() {
     loaded(b"1 is in no queue, and waits at device 33", alone);
 }
 
-// The heads of editions 2 and 3 have 56 bytes, and there is no edition 4.
+// The heads of editions 2 to 4 have 56 bytes, and there is no edition 5.
 fn heads() {
     let short = b"\x02\xfd\xff\0\0\0\x08\0";
     loaded(b"edition 2, shorter than its head", short);
     let short = b"\x03\xfd\xff\0\0\0\x08\0";
     loaded(b"edition 3, shorter than its head", short);
-    let unknown = b"\x04\xfd\xff\0\0\0\x08\0";
-    loaded(b"edition 4", unknown);
+    let short = b"\x04\xfd\xff\0\0\0\x08\0";
+    loaded(b"edition 4, shorter than its head", short);
+    let unknown = b"\x05\xfd\xff\0\0\0\x08\0";
+    loaded(b"edition 5", unknown);
 }
 
 // What bytes load as.

@@ -1,5 +1,5 @@
-// Runs the cases of "Loads that were counted" and those of document 02's P1 to P3 and P5, and every operation on states that are not consistent, and prints
-// what each answers.
+// Runs the cases of "Loads that were counted" and those of document 02's P1 to P3, P5 and P6, and every operation on states that are not consistent, and
+// prints what each answers.
 use nucleus::Reply;
 use nucleus::State;
 use rules::Number;
@@ -10,9 +10,12 @@ mod families;
 mod images;
 mod listeners;
 mod mangled;
+mod places;
 mod updates;
 
 const ANY: u8 = rules::NOBODY;
+
+const LAST_PLACE: u8 = lines::PLACES as u8 - 1;
 
 fn main() {
     fresh();
@@ -30,6 +33,7 @@ fn main() {
     listeners::all();
     updates::all();
     families::all();
+    places::all();
     mangled::all();
 }
 
@@ -66,7 +70,7 @@ fn fresh() {
     kept(s);
 }
 
-// The image, as it would be kept. It is of edition 3.
+// The image, as it would be kept. It is of edition 4.
 fn kept(s: State) {
     let mut buffer = [0u8; image::LONGEST];
     let r = image::save(s, &mut buffer);
@@ -145,7 +149,7 @@ fn sticks() {
     line(b"tick", s.tick(), Place(0));
 }
 
-// 32 creates pass; the 33rd does not.
+// 64 creates pass; the 65th does not.
 fn fills() {
     let mut s = State::fresh();
     let mut i = 0;
@@ -155,7 +159,7 @@ fn fills() {
         s = after;
         i += 1;
     }
-    let s = line(b"create with 32 live", s.create(), Place(31));
+    let s = line(b"create with 64 live", s.create(), Place(LAST_PLACE));
     console::text(b"    live: ");
     console::say(s.live() as u64, b"\n");
 }

@@ -62,8 +62,8 @@ fn unchanged() {
 fn heads() {
     let under = b"\x01\xfd\xff\0\0\0\x08";
     updated(b"under 8 bytes", under);
-    let unknown = b"\x04\xfd\xff\0\0\0\x08\0";
-    updated(b"edition 4", unknown);
+    let unknown = b"\x05\xfd\xff\0\0\0\x08\0";
+    updated(b"edition 5", unknown);
     let short = b"\x02\xfd\xff\0\0\0\x08\0";
     updated(b"edition 2, shorter than its head", short);
     let wrong = b"\x01\0\xff\x01\0\0\x1a\0\0\0\x0c\0\x05\x05\0\0\0\0\0\xff\0\0\0\0\0";
@@ -90,7 +90,7 @@ fn inconsistent() {
 }
 
 // What load and the update make of the bytes. The state that the update gives.
-fn updated(what: &[u8], image: &[u8]) -> State {
+pub fn updated(what: &[u8], image: &[u8]) -> State {
     loaded(what, image);
     came(b"    update: ", image::update(image))
 }

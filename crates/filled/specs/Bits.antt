@@ -86,10 +86,6 @@ word-less (suc k) (suc p) f h =
 pub shl-one : (k p : ℕ) → p < k → (1 * 2 ^ p) % 2 ^ k ≡ 2 ^ p
 shl-one k p h = shl-exact {a = 1} 1 p k (omega arith) (omega arith) ∙ omega arith
 
--- and in one of 32
-pub one-shl : (p : ℕ) → p < 32 → (1 * 2 ^ p) % 4294967296 ≡ 2 ^ p
-one-shl = shl-one 32
-
 -- a number of places fits a byte
 pub fits-byte : {n : ℕ} → n ≤ width → Fits w8 n
 fits-byte h = omega arith

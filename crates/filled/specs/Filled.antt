@@ -7,7 +7,7 @@ use Rattle.lists.specs.Lists.{bit}
 
 -- how many places the code's word has room for
 abbrev pub width : ℕ
-width = 32
+width = 64
 
 -- the word of the places below k that f holds of. (No abbrev: at a numeral k it would unfold k deep wherever it stands.)
 unfoldable pub wordOf : ℕ → (ℕ → Bool) → ℕ

@@ -10,8 +10,9 @@ ghost use Rattle.lists.specs.Sizes.{places, lineCount, cells};
 ghost use Rattle.lines.specs.Lines.{lineOf, Loose, Tidy, Turned, Popped, Clear, Whereabouts, Next};
 ghost use Rattle.lines.specs.Steps.{Behind, Sought, DoneUpTo};
 
-// The sizes. Their other home is `Sizes.antt` of crate `lists`, which the contracts cite; no other line names a number of places or lines.
-pub const PLACES: usize = 32;
+// The sizes. Their other home is `Sizes.antt` of crate `lists`, which the contracts cite; no other line says how many places or lines there are, but for the
+// width of the word that has a digit for each place (`filled`).
+pub const PLACES: usize = 64;
 
 pub const DEVICES: usize = 48;
 

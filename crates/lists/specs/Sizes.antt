@@ -2,9 +2,9 @@
 -- the laws of lines hold for any P places and N lines, and those of threads for `places`, whatever it is.
 use Prim.Native.Nat.{ℕ, _+_}
 
--- 32 places, 0 to 31 (doc 001, MAXTHREADS)
+-- 64 places, 0 to 63 (document 02, P6)
 abbrev pub places : ℕ
-places = 32
+places = 64
 
 -- 48 devices: eight on each of the lines 3 to 6, and on line 7 eight terminals with two halves each (docs 000 and 002)
 abbrev pub devices : ℕ

@@ -1,12 +1,12 @@
--- The images of "Loads that were counted" (document 01), and those of document 02's P1 and P5: one table, and both ways: loading these bytes gives the state,
--- and saving the state gives the bytes of the newest edition.
+-- The images of "Loads that were counted" (document 01), and those of document 02's P1, P5 and P6: one table, and both ways: loading these bytes gives the
+-- state, and saving the state gives the bytes of the newest edition.
 use Prim.Native.Nat.{ℕ, zero, suc, _+_, _-_, _≤_, _<_}
 use mathlib.Core.Path.{_≡_, refl, sym, ap, subst, _∙_}
 use mathlib.Core.List.{List, [], _∷_, _++_}
 use native.Mathlib.Omega.{arith}
 use lib.ListN.{length, getD, take, drop, replicate}
 use lib.Seq.{getD-take, getD-drop}
-use mathlib.Core.Bool.{Bool, true, _&&_}
+use mathlib.Core.Bool.{Bool, true, _&&_, _||_}
 use lib.Dec.{eqb}
 use borrow.Author.Tests.{eqb-true}
 use Rattle.lists.specs.Lists.{tally}
@@ -14,7 +14,7 @@ use Rattle.lists.specs.Every.{Every}
 use Rattle.lists.specs.Sizes.{devices, queueCount}
 use Rattle.lists.specs.Laws.{never, and-left, and-right}
 use Rattle.rules.specs.Values.{nobody}
-use Rattle.rules.specs.Model.{Thread, vacant, Model, line, allPlaces}
+use Rattle.rules.specs.Model.{Empty, Thread, vacant, Model, thread, line, allPlaces}
 use Rattle.rules.specs.Rules.{isNil, firstFree, fresh, after}
 use Rattle.rules.specs.declared.Event.{Event}
 use Rattle.rules.specs.declared.Event.the-variants.{Create, WaitClock, SliceEnd, Tick, WaitDevice}
@@ -22,7 +22,7 @@ use Rattle.order.specs.Keeps.{fresh-consistent, always}
 use Rattle.rules.specs.Consistent.{Consistent}
 use Rattle.nucleus.specs.View.{view, Shows}
 use Rattle.nucleus.specs.declared.State.{State}
-use Rattle.saving.specs.Format.{queuesOf, parentsOf, rowOf, Known, Holds, queuesIn, encodeAs, encode}
+use Rattle.saving.specs.Format.{queuesOf, parentsOf, placesOf, rowOf, Known, Holds, queuesIn, encodeAs, encode}
 use Rattle.saving.specs.Editions.{known-of, newest-known, newest-holds}
 use Rattle.loading.specs.Loads.{ImageAs, Loads}
 use Rattle.saving.specs.Save.{Saves}
@@ -75,9 +75,9 @@ two e n o a b =
     ++ a
     ++ b
 
--- in edition 3, with these parents (93 bytes)
-abbrev pub related : ℕ → ℕ → List ℕ
-related f g = two 3 93 79 (body 1 255 ++ (f ∷ [])) (body 2 255 ++ (g ∷ []))
+-- in an edition with parents, which are these (93 bytes)
+abbrev pub related : ℕ → ℕ → ℕ → List ℕ
+related e f g = two e 93 79 (body 1 255 ++ (f ∷ [])) (body 2 255 ++ (g ∷ []))
 
 unfoldable pub images : List CountedImage
 images =
@@ -86,7 +86,7 @@ images =
       events = [];
       edition = 1;
       image = 1 ∷ 253 ∷ 255 ∷ 0 ∷ 0 ∷ 0 ∷ 8 ∷ 0 ∷ [];
-      saved = 3 ∷ 253 ∷ 255 ∷ 0 ∷ 0 ∷ 0 ∷ nobodyWaits ++ (56 ∷ 0 ∷ []);
+      saved = 4 ∷ 253 ∷ 255 ∷ 0 ∷ 0 ∷ 0 ∷ nobodyWaits ++ (56 ∷ 0 ∷ []);
     }
     -- Document 01's two threads (43 bytes; 91 in edition 2). In these editions neither has a parent.
     ∷ record {
@@ -99,13 +99,15 @@ images =
           ∷ 1
           ∷ 1 ∷ 255 ∷ 0 ∷ 0 ∷ 0 ∷ 0 ∷ 0 ∷ 255 ∷ 0 ∷ 0 ∷ 0 ∷ 0 ∷ 0
           ∷ 2 ∷ 255 ∷ 0 ∷ 0 ∷ 0 ∷ 0 ∷ 0 ∷ 255 ∷ 0 ∷ 0 ∷ 0 ∷ 0 ∷ 0 ∷ [];
-      saved = related 255 255;
+      saved = related 4 255 255;
     }
-    ∷ record { events = strangers; edition = 2; image = two 2 91 78 (body 1 255) (body 2 255); saved = related 255 255 }
+    ∷ record { events = strangers; edition = 2; image = two 2 91 78 (body 1 255) (body 2 255); saved = related 4 255 255 }
     -- P1: 0 alone waits at device 33 (74 bytes). Edition 1 cannot hold it.
-    ∷ record { events = waits; edition = 2; image = waiting 2 74 (body 7 33); saved = waiting 3 75 (body 7 33 ++ (255 ∷ [])) }
+    ∷ record { events = waits; edition = 2; image = waiting 2 74 (body 7 33); saved = waiting 4 75 (body 7 33 ++ (255 ∷ [])) }
     -- P5: create twice, and 0 is the parent of 1. No edition before 3 can hold it.
-    ∷ record { events = pair; edition = 3; image = related 255 0; saved = related 255 0 }
+    ∷ record { events = pair; edition = 3; image = related 3 255 0; saved = related 4 255 0 }
+    -- P6: edition 4 has edition 3's layout.
+    ∷ record { events = pair; edition = 4; image = related 4 255 0; saved = related 4 255 0 }
     ∷ []
 
 abbrev pub state : CountedImage → Model
@@ -113,6 +115,9 @@ state c = after (c .events) fresh
 
 strangers-consistent : Consistent (after strangers fresh)
 strangers-consistent = always strangers fresh fresh-consistent (omega arith, (omega arith, (omega arith, (omega arith, (omega arith, tt)))))
+
+pair-consistent : Consistent (after pair fresh)
+pair-consistent = always pair fresh fresh-consistent (omega arith, (omega arith, tt))
 
 -- loaded, the bytes give the state; saved with room, the state gives the other bytes; both with code 0
 pub record Undone (m : Model) (image saved : List ℕ) : Type 0 where
@@ -128,7 +133,8 @@ undone m e image saved k h C i j = record {
       (w .0, sym (front-image (w .1) .1) ∙ f);
 }
 
--- editions 1 and 2 are known, and hold those who have no parent; edition 1, if they wait at no device
+-- The editions below 4 are known, and hold those who live at the places that they have; edition 1, if they wait at no device, and editions 1 and 2, if they
+-- have no parent.
 first-known : Known (rowOf 1)
 unfolding queuesOf
 first-known = known-of 1 (λ z. omega arith)
@@ -137,15 +143,30 @@ second-known : Known (rowOf 2)
 unfolding queuesOf
 second-known = known-of 2 (λ z. omega arith)
 
-unfoldable parentless : List Thread → Bool
-parentless [] = true
-parentless (t ∷ ts) = eqb (t .parent) nobody && parentless ts
+third-known : Known (rowOf 3)
+unfolding queuesOf
+third-known = known-of 3 (λ z. omega arith)
 
-parentless-at : (ts : List Thread) (p : ℕ) → parentless ts ≡ true → getD ts p vacant .parent ≡ nobody
-unfolding parentless
-parentless-at [] p e = refl
-parentless-at (t ∷ ts) zero e = eqb-true (t .parent) nobody (and-left (eqb (t .parent) nobody) _ e)
-parentless-at (t ∷ ts) (suc p) e = parentless-at ts p (and-right (eqb (t .parent) nobody) _ e)
+unfoldable each : (Thread → Bool) → List Thread → Bool
+each f [] = true
+each f (t ∷ ts) = f t && each f ts
+
+each-at : (f : Thread → Bool) → f vacant ≡ true → (ts : List Thread) (p : ℕ) → each f ts ≡ true → f (getD ts p vacant) ≡ true
+unfolding each
+each-at f v [] p e = v
+each-at f v (t ∷ ts) zero e = and-left (f t) _ e
+each-at f v (t ∷ ts) (suc p) e = each-at f v ts p (and-right (f t) _ e)
+
+abbrev parentless : Thread → Bool
+parentless t = eqb (t .parent) nobody
+
+abbrev empty : Thread → Bool
+empty t = eqb (t .standing) Empty
+
+empty-from : (n : ℕ) (m : Model) → each empty (drop n (m .threads)) ≡ true → (p : ℕ) → n ≤ p → thread m p .standing ≡ Empty
+empty-from n m e p h =
+    let i : n + (p - n) ≡ p = omega arith in
+    eqb-true _ _ (ap (λ (r : ℕ). empty (thread m r)) (sym i) ∙ ap empty (sym (getD-drop n (m .threads) (p - n) vacant)) ∙ each-at empty refl (drop n (m .threads)) (p - n) e)
 
 unfoldable empties : List (List ℕ) → Bool
 empties [] = true
@@ -164,21 +185,29 @@ empties-by n m e q h k =
     ap (line m) (sym i) ∙ sym (getD-drop n (m .lines) (q - n) []) ∙ sym (getD-take (queueCount - n) (drop n (m .lines)) (q - n) [] (omega arith))
     ∙ empty-at (take (queueCount - n) (drop n (m .lines))) (q - n) e
 
-holds-by : (row : Row) (m : Model) → empties (take (queueCount - row .queues) (drop (row .queues) (m .lines))) ≡ true → parentless (m .threads) ≡ true → Holds row m
-holds-by row m e f = record { queues = empties-by (row .queues) m e; parents = λ _ p. parentless-at (m .threads) p f }
+holds-by : (row : Row) (m : Model) → empties (take (queueCount - row .queues) (drop (row .queues) (m .lines))) ≡ true → (row .parents || each parentless (m .threads)) ≡ true
+    → each empty (drop (row .places) (m .threads)) ≡ true → Holds row m
+holds-by row m e f g = record {
+  queues = empties-by (row .queues) m e;
+  parents = λ z p. eqb-true _ _ (each-at parentless refl (m .threads) p (rw z at f));
+  places = λ p h _. empty-from (row .places) m g p h;
+}
 
 -- each row's image is that of its state in its edition, and both ways
 pub counted-images : Every (λ c. (encodeAs (rowOf (c .edition)) (state c) ≡ c .image) × (encode (state c) ≡ c .saved) × Undone (state c) (c .image) (c .saved)) images
-unfolding images parentless empties encodeAs queuesOf parentsOf queuesIn allPlaces tally firstFree
+unfolding images each empties encodeAs queuesOf parentsOf placesOf queuesIn allPlaces tally firstFree
 counted-images = (
-  (refl, refl, undone fresh 1 _ _ first-known (holds-by (rowOf 1) fresh refl refl) fresh-consistent refl refl),
+  (refl, refl, undone fresh 1 _ _ first-known (holds-by (rowOf 1) fresh refl refl refl) fresh-consistent refl refl),
   (
-    (refl, refl, undone (after strangers fresh) 1 _ _ first-known (holds-by (rowOf 1) (after strangers fresh) refl refl) strangers-consistent refl refl),
+    (refl, refl, undone (after strangers fresh) 1 _ _ first-known (holds-by (rowOf 1) (after strangers fresh) refl refl refl) strangers-consistent refl refl),
     (
-      (refl, refl, undone (after strangers fresh) 2 _ _ second-known (holds-by (rowOf 2) (after strangers fresh) refl refl) strangers-consistent refl refl),
+      (refl, refl, undone (after strangers fresh) 2 _ _ second-known (holds-by (rowOf 2) (after strangers fresh) refl refl refl) strangers-consistent refl refl),
       (
-        (refl, refl, undone (after waits fresh) 2 _ _ second-known (holds-by (rowOf 2) (after waits fresh) refl refl) (always waits fresh fresh-consistent (omega arith, (omega arith, tt))) refl refl),
-        ((refl, refl, undone (after pair fresh) 3 _ _ newest-known (newest-holds (after pair fresh)) (always pair fresh fresh-consistent (omega arith, (omega arith, tt))) refl refl), tt),
+        (refl, refl, undone (after waits fresh) 2 _ _ second-known (holds-by (rowOf 2) (after waits fresh) refl refl refl) (always waits fresh fresh-consistent (omega arith, (omega arith, tt))) refl refl),
+        (
+          (refl, refl, undone (after pair fresh) 3 _ _ third-known (holds-by (rowOf 3) (after pair fresh) refl refl refl) pair-consistent refl refl),
+          ((refl, refl, undone (after pair fresh) 4 _ _ newest-known (newest-holds (after pair fresh)) pair-consistent refl refl), tt),
+        ),
       ),
     ),
   ),

@@ -27,11 +27,11 @@ use Rattle.saving.specs.Longest.{live-length}
 use Rattle.saving.specs.declared.format.Row.{Row}
 use Rattle.loading.specs.Loads.{ImageAsBy}
 use Rattle.loading.specs.Positions.{offset}
-use Rattle.loading.specs.Reading.{Joined, threadIn, Filed, opened, Upto, queueAt, QueuesUpto, QueuesRead, Parentless, Entered}
+use Rattle.loading.specs.Reading.{Joined, threadIn, Filed, opened, Upto, queueAt, QueuesUpto, QueuesRead, Parentless, NobodyFrom, Entered}
 use Rattle.loading.specs.Finds.{last-is, running-is, live-is, size-found, queue-found, thread-is, inbox-length, inbox-is}
-use Rattle.loading.specs.Entry.{within, split, p-low, p-new, p-is, n-is, o-is, entryAt}
+use Rattle.loading.specs.Entry.{within, split, p-low, p-named, p-new, p-is, n-is, o-is, entryAt}
 use Rattle.loading.specs.Joins.{filed-more}
-use Rattle.loading.specs.Fills.{filed-none, seats-none, opened-queue, opened-inbox, opened-here, opened-there, seats-more, parentless-more, all-read}
+use Rattle.loading.specs.Fills.{filed-none, seats-none, opened-queue, opened-inbox, opened-here, opened-there, seats-more, parentless-more, nobody-more, all-read}
 
 -- ---- the queues
 
@@ -68,16 +68,17 @@ queues-read {row} {s} {l} {l₁} {q} U e = record {
 
 -- ---- an entry
 
--- an entry that names no place is none of an image
-pub entered-no : {row : Row} {s b w l : List ℕ} {i e : ℕ} → Sized b w → e ≡ entryAt row i → places ≤ getD s e 0 → Entered row s i (i + 1) b w l b w l
+-- an entry that names no place of the row is none of an image
+pub entered-no : {row : Row} {s b w l : List ℕ} {i e : ℕ} → Sized b w → e ≡ entryAt row i → row .places ≤ getD s e 0 → Entered row s i (i + 1) b w l b w l
 entered-no {row} {s} {i = i} k z h = record {
   sized = k;
   parentless = λ _ f. f;
-  reads = λ strict m I g U. let t : i < live m = omega arith in let e = ap (λ (x : ℕ). getD s x 0) z ∙ p-is I t in let v = p-low I t in absurd (omega arith);
+  beyond = λ f. f;
+  reads = λ strict m I g U. let t : i < live m = omega arith in let e = ap (λ (x : ℕ). getD s x 0) z ∙ p-is I t in let v = p-named I t in absurd (omega arith);
 }
 
 module _ {row : Row} {s b w l b′ w′ l′ : List ℕ} {i e p n o c : ℕ} (W : Stored b w p (λ _. threadIn row s n o) b′ w′) (j : Joined s (o + bodyLength row) c (queueCount + p) c l l′)
-    (ee : e ≡ entryAt row i) (ep : p ≡ getD s e 0) (en : n ≡ getD s (e + 1) 0) (eo : o ≡ twoAt s (e + 2)) (ec : c ≡ getD s (o + inboxLengthAt) 0) where
+    (low : p < row .places) (ee : e ≡ entryAt row i) (ep : p ≡ getD s e 0) (en : n ≡ getD s (e + 1) 0) (eo : o ≡ twoAt s (e + 2)) (ec : c ≡ getD s (o + inboxLengthAt) 0) where
   module _ (strict : Bool) (m : Model) (I : ImageAsBy strict row m s) (g : i < live m) (U : Upto m (take i (livePlaces m)) b w l) where
     abbrev who : ℕ
     who = getD (livePlaces m) i 0
@@ -112,15 +113,15 @@ module _ {row : Row} {s b w l b′ w′ l′ : List ℕ} {i e p n o c : ℕ} (W 
     })
 
   pub entered-one : Entered row s i (i + 1) b w l b′ w′ l′
-  entered-one = rw add-one (record { sized = record { blocks = W .blocks; words = W .words }; parentless = λ z. parentless-more W (rw z); reads = λ strict m I g U. one-more strict m I (omega arith) U })
+  entered-one = rw add-one (record { sized = record { blocks = W .blocks; words = W .words }; parentless = λ z. parentless-more W (rw z); beyond = nobody-more W low; reads = λ strict m I g U. one-more strict m I (omega arith) U })
 
 -- ---- all entries
 
 pub entered-none : {row : Row} {s b w l : List ℕ} → Sized b w → Entered row s 0 0 b w l b w l
-entered-none k = record { sized = k; parentless = λ _ f. f; reads = λ strict m I g U. U }
+entered-none k = record { sized = k; parentless = λ _ f. f; beyond = λ f. f; reads = λ strict m I g U. U }
 
 pub entered-more : {row : Row} {s : List ℕ} {i : ℕ} {b w l b₁ w₁ l₁ b₂ w₂ l₂ : List ℕ} → Entered row s 0 i b w l b₁ w₁ l₁ → Entered row s i (i + 1) b₁ w₁ l₁ b₂ w₂ l₂ → Entered row s 0 (i + 1) b w l b₂ w₂ l₂
-entered-more E F = record { sized = F .sized; parentless = λ e f. F .parentless e (E .parentless e f); reads = λ strict m I g U. F .reads strict m I g (E .reads strict m I (omega arith) U) }
+entered-more E F = record { sized = F .sized; parentless = λ e f. F .parentless e (E .parentless e f); beyond = λ f. F .beyond (E .beyond f); reads = λ strict m I g U. F .reads strict m I g (E .reads strict m I (omega arith) U) }
 
 -- ---- the whole
 
@@ -138,6 +139,9 @@ module _ {row : Row} {s b w l b′ w′ l₁ l′ : List ℕ} {n f y x : ℕ} (e
 
   pub candidate-parentless : row .parents ≡ false → Parentless b′
   candidate-parentless z = E .parentless z (λ p h. ap (λ (x : Thread). x .parent) (e .clean p h))
+
+  pub candidate-beyond : NobodyFrom (row .places) b′
+  candidate-beyond = E .beyond (λ p _ h. ap (λ (x : Thread). x .standing) (e .clean p h))
 
   pub candidate-shows : (strict : Bool) (m : Model) → ImageAsBy strict row m s → ShowsBy strict (record { filled = f; last = record { 0 = y }; running = record { 0 = x }; blocks = b′; words = w′; lines = l′ }) m
   candidate-shows strict m I = record {

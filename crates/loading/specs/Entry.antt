@@ -13,11 +13,14 @@ use Rattle.lists.specs.Search.{upFrom-within}
 use Rattle.lists.specs.Only.{only-not}
 use Rattle.lists.specs.Bytes.{twoAt}
 use Rattle.rules.specs.Model.{places, Model, inbox, thread, line, allPlaces, livesAt, live}
+use Rattle.order.specs.Sound.{old-of}
+use Rattle.order.specs.Places.{lives-at}
 use Rattle.saving.specs.Format.{headLength, entryLength, inboxLengthAt, bodyLength, livePlaces}
+use Rattle.saving.specs.Held.{lives-held}
 use Rattle.saving.specs.Longest.{live-length, live-distinct}
 use Rattle.saving.specs.declared.format.Row.{Row}
 use Rattle.loading.specs.Loads.{ImageAsBy}
-use Rattle.loading.specs.Positions.{offset}
+use Rattle.loading.specs.Positions.{offset, live-in}
 use Rattle.loading.specs.Reading.{threadIn}
 use Rattle.loading.specs.Finds.{place-is, number-is, offset-is, thread-is, inbox-length, inbox-is}
 
@@ -55,6 +58,9 @@ module _ {strict : Bool} {row : Row} {m : Model} {s : List ℕ} (I : ImageAsBy s
 
   pub p-low : p < places
   p-low = live-low m p p-among
+
+  pub p-named : p < row .places
+  p-named = lives-held (I .holds) (old-of strict (I .consistent)) p (lives-at m p (sym (live-in m p p-low) ∙ p-among))
 
   pub p-new : among p qs ≡ false
   p-new = distinct-fore p qs rs (rw split at (live-distinct m))

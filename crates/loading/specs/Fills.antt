@@ -23,7 +23,7 @@ use Rattle.saving.specs.Format.{livePlaces}
 use Rattle.saving.specs.Queues.{inbox-at, each-line}
 use Rattle.saving.specs.declared.format.Row.{Row}
 use Rattle.loading.specs.Positions.{live-in}
-use Rattle.loading.specs.Reading.{threadIn, Filed, opened, Seats, Upto, Parentless}
+use Rattle.loading.specs.Reading.{threadIn, Filed, opened, Seats, Upto, Parentless, NobodyFrom}
 
 -- ---- nothing
 
@@ -70,6 +70,9 @@ parentless-more {p = p} W e f r h =
     by-test (eqb r p)
     (λ y. let z : r ≡ p = eqb-true r p y in rw z (ap (λ (x : Thread). x .parent) (W .here) ∙ e))
     (λ y. ap (λ (x : Thread). x .parent) (W .there r h (eqb-false r p y)) ∙ f r h)
+
+pub nobody-more : {b w b′ w′ : List ℕ} {n p : ℕ} {t : Thread} → Stored b w p (λ _. t) b′ w′ → p < n → NobodyFrom n b → NobodyFrom n b′
+nobody-more W h f r k j = ap (λ (x : Thread). x .standing) (W .there r j (λ e. omega arith)) ∙ f r k j
 
 -- ---- all of them
 

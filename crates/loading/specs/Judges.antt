@@ -18,9 +18,10 @@ use Rattle.lists.specs.Bytes.{twoAt}
 use Rattle.lines.specs.Lines.{lineOf, Tidy}
 use Rattle.lines.specs.Along.{no-place}
 use Rattle.rules.specs.Values.{nobody}
-use Rattle.rules.specs.Model.{places, lineCount, Model, thread, line}
+use Rattle.rules.specs.Model.{places, lineCount, Thread, Model, thread, line}
 use Rattle.rules.specs.Consistent.{Consistent}
 use Rattle.order.specs.Sound.{old-of}
+use Rattle.table.specs.Cells.{cell}
 use Rattle.table.specs.Rows.{thread-at, line-at, thread-past}
 use Rattle.nucleus.specs.View.{view, ConsistsBy, ShowsBy}
 use Rattle.nucleus.specs.declared.State.{State}
@@ -29,7 +30,7 @@ use Rattle.saving.specs.Editions.{known-head, known-of, newest-known, newest-ho
 use Rattle.saving.specs.Written.{Written}
 use Rattle.saving.specs.declared.format.Row.{Row}
 use Rattle.loading.specs.Loads.{rowAt, headCode, ImageAsBy, ImageBy, Image, ForeignBy}
-use Rattle.loading.specs.Reading.{Parentless}
+use Rattle.loading.specs.Reading.{Parentless, NobodyFrom}
 use Rattle.loading.specs.Finds.{row-is, length-is, long-enough}
 
 -- ---- the head
@@ -139,8 +140,11 @@ module _ (row : Row) (s : State) where
       (λ t. let h = ltb-true p places t in rw (thread-at (s .last .0) (s .running .0) (s .blocks) (s .words) (s .lines) p h) (f p h))
       (λ t. rw (thread-past (s .last .0) (s .running .0) (s .blocks) (s .words) (s .lines) p (ltb-false p places t)))
 
-  pub bare-holds : Bare (s .lines) (row .queues) queueCount → (row .parents ≡ false → Parentless (s .blocks)) → Holds row (view s)
-  bare-holds f g = record { queues = λ q h k. same-line q k ∙ f q h k; parents = λ e. same-parents (g e) }
+  same-standing : (p : ℕ) → p < places → thread (view s) p .standing ≡ getD (s .blocks) (cell 1 p) 0
+  same-standing p h = ap (λ (t : Thread). t .standing) (thread-at (s .last .0) (s .running .0) (s .blocks) (s .words) (s .lines) p h)
+
+  pub bare-holds : Bare (s .lines) (row .queues) queueCount → (row .parents ≡ false → Parentless (s .blocks)) → NobodyFrom (row .places) (s .blocks) → Holds row (view s)
+  bare-holds f g h = record { queues = λ q i k. same-line q k ∙ f q i k; parents = λ e. same-parents (g e); places = λ p i k. same-standing p k ∙ h p i k }
 
   pub holds-bare : Holds row (view s) → Bare (s .lines) (row .queues) queueCount
   holds-bare f q h k = sym (same-line q k) ∙ f .queues q h k

@@ -12,3 +12,4 @@ pub mod Accepts
 pub mod RoundTrip
 pub mod Counted
 pub mod Parents
+pub mod Named

@@ -29,9 +29,9 @@ abbrev started : ℕ → ℕ → ℕ → Thread
 started n st pa = record { number = n; standing = st; partner = nobody; word = 0; code = 0; who = nobody; answer = 0; parent = pa }
 
 -- a model that has such an image: 0 runs with the parent f, and 1 is ready with the parent g
-module _ {strict : Bool} {f g : ℕ} {m : Model} (J : ImageBy strict m (related f g)) where
-  image : ImageAsBy strict (rowOf 3) m (related f g)
-  image = subst (λ (row : Row). ImageAsBy strict row m (related f g)) (row-is (J .1)) (J .1)
+module _ {strict : Bool} {f g : ℕ} {m : Model} (J : ImageBy strict m (related 3 f g)) where
+  image : ImageAsBy strict (rowOf 3) m (related 3 f g)
+  image = subst (λ (row : Row). ImageAsBy strict row m (related 3 f g)) (row-is (J .1)) (J .1)
 
   two : live m ≡ 2
   two = sym (live-is image)
@@ -64,7 +64,7 @@ module _ {strict : Bool} {f g : ℕ} {m : Model} (J : ImageBy strict m (related 
   above-second p h e = ap (placeOf m) (rw second (sym e)) ∙ place-only m S p h
 
   -- nobody else lives
-  named : (r i : ℕ) → i < 2 → getD (related f g) (entryAt (rowOf 3) i) 0 ≡ r → thread m r .number < 2
+  named : (r i : ℕ) → i < 2 → getD (related 3 f g) (entryAt (rowOf 3) i) 0 ≡ r → thread m r .number < 2
   unfolding queuesOf parentsOf
   named r zero h e = let z : 0 ≡ r = e in rw (← z, first) (omega arith)
   named r (suc zero) h e = let z : 1 ≡ r = e in rw (← z, second) (omega arith)
@@ -78,19 +78,19 @@ module _ {strict : Bool} {f g : ℕ} {m : Model} (J : ImageBy strict m (related 
 
 -- ---- no consistent state has them
 
-ring-foreign : {strict : Bool} → ForeignBy strict (related 1 0)
+ring-foreign : {strict : Bool} → ForeignBy strict (related 3 1 0)
 ring-foreign m J =
     let w = C J .rooted 0 (first-lives J) in
     let e : climb (above m) 2 0 ≡ 0 = ap (above m) (above-first J refl) ∙ above-second J 0 (first-lives J) (ap (λ (t : Thread). t .number) (first J)) in
     no-return (above m) (above-none m (S J)) (w .0) 1 0 (omega arith) (w .1) e
 
-own-foreign : {strict : Bool} → ForeignBy strict (related 255 1)
+own-foreign : {strict : Bool} → ForeignBy strict (related 3 255 1)
 own-foreign m J =
     let w = C J .rooted 1 (second-lives J) in
     let e : climb (above m) 1 1 ≡ 1 = above-second J 1 (second-lives J) (ap (λ (t : Thread). t .number) (second J)) in
     no-return (above m) (above-none m (S J)) (w .0) 0 1 (omega arith) (w .1) e
 
-dead-foreign : {strict : Bool} → ForeignBy strict (related 255 7)
+dead-foreign : {strict : Bool} → ForeignBy strict (related 3 255 7)
 dead-foreign m J =
     let e : thread m 1 .parent ≡ 7 = ap (λ (t : Thread). t .parent) (second J) in
     let v = C J .parented 1 (second-lives J) (omega arith) in
@@ -101,12 +101,12 @@ dead-foreign m J =
 -- ---- so they get 10
 
 -- their heads are in order
-related-head : (f g : ℕ) → headCode (related f g) ≡ 0
+related-head : (f g : ℕ) → headCode (related 3 f g) ≡ 0
 unfolding queuesOf parentsOf
 related-head f g = refl
 
 -- 0 and 1 are each other's parents; 1 is its own; the parent of 1 is 7, whom nobody is
-pub counted-parents : {strict : Bool} (r : Loaded) → (LoadsBy strict (related 1 0) r → r .code ≡ 10) × (LoadsBy strict (related 255 1) r → r .code ≡ 10) × (LoadsBy strict (related 255 7) r → r .code ≡ 10)
+pub counted-parents : {strict : Bool} (r : Loaded) → (LoadsBy strict (related 3 1 0) r → r .code ≡ 10) × (LoadsBy strict (related 3 255 1) r → r .code ≡ 10) × (LoadsBy strict (related 3 255 7) r → r .code ≡ 10)
 counted-parents r = (
   (λ L. refuses L .1 (related-head 1 0) ring-foreign),
   (λ L. refuses L .1 (related-head 255 1) own-foreign),

@@ -3,7 +3,7 @@
 use mathlib.Core.Path.{_≡_}
 use mathlib.Core.List.{List, [], _++_}
 use mathlib.Core.Bool.{Bool, true, false, cond}
-use Prim.Native.Nat.{ℕ, zero, suc, _+_, _*_, _-_, _<_}
+use Prim.Native.Nat.{ℕ, zero, suc, _+_, _*_, _-_, _≤_, _<_}
 use lib.Dec.{ltb}
 use lib.ListN.{length, take, drop, getD}
 use Rattle.lists.specs.Sizes.{queueCount}
@@ -11,7 +11,7 @@ use Rattle.lists.specs.Lists.{among, Distinct}
 use Rattle.lists.specs.Bytes.{wordAt}
 use Rattle.lines.specs.Lines.{lineOf, Loose, Tidy, Turned, Clear}
 use Rattle.rules.specs.Values.{nobody}
-use Rattle.rules.specs.Model.{places, lineCount, Thread, vacant, Model, thread, line, live}
+use Rattle.rules.specs.Model.{places, lineCount, Empty, Thread, vacant, Model, thread, line, live}
 use Rattle.table.specs.Cells.{cell, threadOf}
 use Rattle.table.specs.Clean.{Sized}
 use Rattle.saving.specs.Format.{lengthsAt, headLength, entryLength, parentAt, livePlaces}
@@ -89,8 +89,13 @@ pub record QueuesRead (row : Row) (s l l′ : List ℕ) : Type 0 where
 abbrev pub Parentless : List ℕ → Type 0
 Parentless b = (p : ℕ) → p < places → getD b (cell 5 p) 0 ≡ nobody
 
+-- nobody lives at the places from n on
+abbrev pub NobodyFrom : ℕ → List ℕ → Type 0
+NobodyFrom n b = (p : ℕ) → n ≤ p → p < places → getD b (cell 1 p) 0 ≡ Empty
+
 -- the entries of the contents from i to k have been read
 pub record Entered (row : Row) (s : List ℕ) (i k : ℕ) (b w l b′ w′ l′ : List ℕ) : Type 0 where
   pub sized : Sized b′ w′
   pub parentless : row .parents ≡ false → Parentless b → Parentless b′
+  pub beyond : NobodyFrom (row .places) b → NobodyFrom (row .places) b′
   pub reads : (strict : Bool) (m : Model) → ImageAsBy strict row m s → k < suc (live m) → Upto m (take i (livePlaces m)) b w l → Upto m (take k (livePlaces m)) b′ w′ l′

@@ -1,5 +1,6 @@
-// Reading: a candidate is made of any bytes, and no byte is trusted. No rule of the format is tested here, for what is read of bytes that are no image
-// does not matter: load finds out.
+// Reading: a candidate is made of any bytes, and no byte is trusted. It has nothing that its edition has not: nobody is seated at a place, or given a parent,
+// that the row does not have, and load relies on that. No other rule of the format is kept here, for what else is read of bytes that are no image does not
+// matter: load finds out.
 ghost use mathlib.Core.Path.{_≡_};
 ghost use mathlib.Core.Bool.{Bool, false};
 ghost use Prim.Native.Nat.{_+_, _*_, _^_, _≤_, _<_};
@@ -8,7 +9,7 @@ ghost use Rattle.table.specs.Clean.{Sized};
 ghost use Rattle.table.specs.Stores.{Stored};
 ghost use Rattle.rules.specs.Model.{places, lineCount, Model};
 ghost use Rattle.nucleus.specs.View.{ShowsBy};
-ghost use Rattle.loading.specs.Reading.{Joined, parentIn, threadIn, QueuesRead, Parentless, Entered};
+ghost use Rattle.loading.specs.Reading.{Joined, parentIn, threadIn, QueuesRead, Parentless, NobodyFrom, Entered};
 ghost use Rattle.loading.specs.Loads.{ImageAsBy};
 use super::bytes;
 use lines::Links;
@@ -58,14 +59,14 @@ fn seat(row: Row, image: &[u8], o: usize, p: Place, n: Number, b: &mut Blocks, w
     table::raise(b, p, parent(row, image, o));
 }
 
-// Entry i of the contents is read, with the body that it names.
+// Entry i of the contents is read, with the body that it names, if its place is one that the row has.
 fn enter(row: Row, image: &[u8], i: usize, b: &mut Blocks, w: &mut Words, l: &mut Links)
-    requires { ⌜ (i < 2 ^ 16) × Sized (now b) (now w) ⌝ }
+    requires { ⌜ (i < 2 ^ 16) × (row .places ≤ places) × Sized (now b) (now w) ⌝ }
     ensures { λ r. ⌜ Entered row (now (image .entry)) i (i + 1) (now (b .entry)) (now (w .entry)) (now (l .entry)) (now (b .exit)) (now (w .exit)) (now (l .exit)) ⌝ }
 {
     let entry = format::head_length(row) + format::ENTRY * i;
     let p = bytes::at(image, entry);
-    if bytes::wide(p) >= lines::PLACES {
+    if p >= row.places {
         return;
     }
     let o = bytes::two(image, entry + format::OFFSET_AT);
@@ -83,7 +84,7 @@ fn enter(row: Row, image: &[u8], i: usize, b: &mut Blocks, w: &mut Words, l: &mu
 
 // Every entry is read.
 fn entries(row: Row, image: &[u8], n: usize, b: &mut Blocks, w: &mut Words, l: &mut Links)
-    requires { ⌜ (n < 256) × Sized (now b) (now w) ⌝ }
+    requires { ⌜ (n < 256) × (row .places ≤ places) × Sized (now b) (now w) ⌝ }
     ensures { λ r. ⌜ Entered row (now (image .entry)) 0 n (now (b .entry)) (now (w .entry)) (now (l .entry)) (now (b .exit)) (now (w .exit)) (now (l .exit)) ⌝ }
 {
     let mut i = 0;
@@ -110,10 +111,10 @@ fn queues(row: Row, image: &[u8], l: &mut Links)
 }
 
 // The state of which the bytes may be the image in the edition of the row. If they are the image of any, it is this one's. It has no parents where the row
-// has none.
+// has none, and nobody lives at a place that the row has not.
 pub fn candidate(row: Row, image: &[u8]) -> State
-    requires { ⌜ row .queues ≤ queueCount ⌝ }
-    ensures { λ r. ⌜ ((strict : Bool) (m : Model) → ImageAsBy strict row m (now (image .entry)) → ShowsBy strict r m) × (row .parents ≡ false → Parentless (r .blocks)) ⌝ }
+    requires { ⌜ (row .queues ≤ queueCount) × (row .places ≤ places) ⌝ }
+    ensures { λ r. ⌜ ((strict : Bool) (m : Model) → ImageAsBy strict row m (now (image .entry)) → ShowsBy strict r m) × (row .parents ≡ false → Parentless (r .blocks)) × NobodyFrom (row .places) (r .blocks) ⌝ }
 {
     let mut b = [0u8; table::BYTES];
     let mut w = [0u32; table::WORDS];

@@ -25,7 +25,7 @@ use table::Thread;
 use table::Words;
 
 pub struct State {
-    pub filled: u32,
+    pub filled: u64,
     pub last: Number,
     pub running: Place,
     pub blocks: Blocks,

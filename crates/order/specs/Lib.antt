@@ -31,6 +31,7 @@ pub mod Devices
 pub mod Accepted
 pub mod Acts
 pub mod Keeps
+pub mod Crowd
 pub mod Lives
 pub mod TurnComes
 pub mod Grown

@@ -1,5 +1,5 @@
--- "LOADS THAT WERE COUNTED" (document 01): every starred case, of the rules, of the image and of the log, and those of document 02's P1 to P3 and P5, in one
--- table that one computed fact covers.
+-- "LOADS THAT WERE COUNTED" (document 01): every starred case, of the rules, of the image and of the log, and those of document 02's P1 to P3, P5 and P6, in
+-- one table that one computed fact covers.
 use Prim.Native.Nat.{ℕ}
 use mathlib.Core.Path.{_≡_, refl}
 use mathlib.Core.List.{List, _++_, map}

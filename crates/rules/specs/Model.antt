@@ -6,7 +6,7 @@ use lib.ListN.{getD}
 use lib.Dec.{eqb}
 use Rattle.lists.specs.Lists.{upFrom, tally}
 use Rattle.rules.specs.Values.{nobody}
--- 32 places, 0 to 31 (doc 001, MAXTHREADS). Each is empty or holds one thread. 48 devices. And the lines, below: the queues, and an inbox for each place.
+-- 64 places, 0 to 63 (document 02, P6). Each is empty or holds one thread. 48 devices. And the lines, below: the queues, and an inbox for each place.
 pub use Rattle.lists.specs.Sizes.{places, devices, queueCount, lineCount}
 
 -- A thread number, a place and a device's index are different kinds and may not be mixed: each has a type of its own in the code, and here a name of its own.
@@ -110,6 +110,6 @@ allPlaces = upFrom 0 places
 abbrev pub livesAt : Model → Place → Bool
 livesAt m p = not (eqb (thread m p .standing) Empty)
 
--- The live count. (The set of filled places as one 32-bit word, of which it is the ones: `Filled` of crate `table`.)
+-- The live count. (The set of filled places as one 64-bit word, of which it is the ones: `Filled` of crate `table`.)
 abbrev pub live : Model → ℕ
 live m = tally places (livesAt m)

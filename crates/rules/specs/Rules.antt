@@ -359,7 +359,7 @@ awaitsAt p n m = awaiting n .picks (thread m p)
 abbrev pub notAwaiting : Model → Number → Bool
 notAwaiting m t = not (awaitsAt (placeOf m t) (mine m) m)
 
--- 6: create with 32 live
+-- 6: create with 64 live (document 02, P6)
 abbrev pub full : Model → Bool
 full m = eqb (live m) places
 

@@ -10,7 +10,7 @@ pub mod kinds;
 // A thread's number, 0 to 253. 255 is nobody, or anyone.
 pub struct Number(pub u8);
 
-// A place, 0 to 31. 255 is none. A place is no number: neither can stand where the other is asked for.
+// A place, 0 to 63. 255 is none. A place is no number: neither can stand where the other is asked for.
 pub struct Place(pub u8);
 
 // A device's index, 0 to 47: a third kind. 255 is none.

@@ -1,50 +1,65 @@
--- THE IMAGE (document 01, "The image and the log"; document 02, P1 and P5), in the documents' order and words. Saving, loading and looking up are all held to
--- this one text, and so is every edition: what an edition has of the format is its row of the table.
+-- THE IMAGE (document 01, "The image and the log"; document 02, P1, P5 and P6), in the documents' order and words. Saving, loading and looking up are all held
+-- to this one text, and so is every edition: what an edition has of the format is its row of the table.
 use Prim.Native.Nat.{ℕ, _+_, _*_, _≤_, _<_}
 use mathlib.Core.Path.{_≡_}
 use mathlib.Core.List.{List, [], _∷_, _++_}
 use mathlib.Core.Bool.{Bool, true, false, cond}
 use lib.ListN.{length, getD}
-use Rattle.lists.specs.Sizes.{queueCount}
+use Rattle.lists.specs.Sizes.{places, queueCount}
 use Rattle.lists.specs.Lists.{bit, upFrom, only}
 use Rattle.lists.specs.Bytes.{twoBytes, wordBytes}
 use Rattle.rules.specs.Values.{nobody}
-use Rattle.rules.specs.Model.{Place, Number, Thread, Model, inbox, thread, line, allPlaces, livesAt, live}
+use Rattle.rules.specs.Model.{Place, Number, Empty, Thread, Model, inbox, thread, line, allPlaces, livesAt, live}
 use Rattle.saving.specs.declared.format.Row.{Row}
 
 -- ---- the table of editions
--- How many queues each edition has, by its number: edition 1 has ready and clock, editions 2 and 3 those of the 48 devices too. An edition
--- that has none is not known.
+-- How many queues each edition has, by its number: edition 1 has ready and clock, those behind it those of the 48 devices too. An edition that
+-- has none is not known.
 abbrev pub queuesBy : List ℕ
-queuesBy = 0 ∷ 2 ∷ queueCount ∷ queueCount ∷ []
+queuesBy = 0 ∷ 2 ∷ queueCount ∷ queueCount ∷ queueCount ∷ []
 
 unfoldable pub queuesOf : ℕ → ℕ
 queuesOf e = getD queuesBy e 0
 
--- Which editions have each thread's parent: edition 3 does.
+-- Which editions have each thread's parent: edition 3, and those behind it.
 abbrev pub parentsBy : List Bool
-parentsBy = false ∷ false ∷ false ∷ true ∷ []
+parentsBy = false ∷ false ∷ false ∷ true ∷ true ∷ []
 
 unfoldable pub parentsOf : ℕ → Bool
 parentsOf e = getD parentsBy e false
 
--- the row of an edition: its number, how many queues it has, which are the lines 0, 1, .., and whether it has parents
+-- the places that there were before P6
+abbrev pub placesBefore : ℕ
+placesBefore = 32
+
+-- How many places each edition may name, by its number: the editions below 4 those that there were before P6, and edition 4 every one. In all else edition 4
+-- has edition 3's layout.
+abbrev pub placesBy : List ℕ
+placesBy = 0 ∷ placesBefore ∷ placesBefore ∷ placesBefore ∷ places ∷ []
+
+unfoldable pub placesOf : ℕ → ℕ
+placesOf e = getD placesBy e 0
+
+-- the row of an edition: its number, how many queues it has, which are the lines 0, 1, .., whether it has parents, and how many places, which are 0, 1, ..
 abbrev pub rowOf : ℕ → Row
-rowOf e = record { edition = e; queues = queuesOf e; parents = parentsOf e }
+rowOf e = record { edition = e; queues = queuesOf e; parents = parentsOf e; places = placesOf e }
 
 pub record Known (row : Row) : Type 0 where
   pub listed : row .queues ≡ queuesOf (row .edition)
   pub parented : row .parents ≡ parentsOf (row .edition)
+  pub placed : row .places ≡ placesOf (row .edition)
   pub some : 0 < row .queues
 
--- the newest edition, which a save writes, has every queue, and parents
+-- the newest edition, which a save writes, has every queue, parents, and every place
 abbrev pub newest : Row
-newest = record { edition = 3; queues = queueCount; parents = true }
+newest = record { edition = 4; queues = queueCount; parents = true; places = places }
 
--- In a model that a row can hold, the queues that it has not are empty, and nobody has a parent where it has no parents.
+-- In a model that a row can hold, the queues that it has not are empty, nobody has a parent where it has no parents, and nobody lives at a place that it has
+-- not.
 pub record Holds (row : Row) (m : Model) : Type 0 where
   pub queues : (q : ℕ) → row .queues ≤ q → q < queueCount → line m q ≡ []
   pub parents : row .parents ≡ false → (p : Place) → thread m p .parent ≡ nobody
+  pub places : (p : Place) → row .places ≤ p → p < places → thread m p .standing ≡ Empty
 
 -- ---- the lengths of the parts
 -- the head has four bytes, one for each queue, and two

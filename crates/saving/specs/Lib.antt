@@ -1,5 +1,7 @@
 pub mod Format
 pub mod Editions
+pub mod Held
+pub mod Layout
 pub mod Queues
 pub mod Longest
 pub mod Lining

@@ -23,7 +23,7 @@ use Rattle.saving.specs.Format.{newest, headLength, entryLength, bodyLen
 use Rattle.saving.specs.Queues.{inbox-at, lengths-length, joined-append}
 use Rattle.saving.specs.declared.format.Row.{Row}
 
--- The longest is 664 bytes (document 01 has 584, for edition 1): every place lives and waits somewhere.
+-- The longest is 1,272 bytes (document 01 has 584, for edition 1 and 32 places): every place lives and waits somewhere.
 abbrev pub longestImage : ℕ
 longestImage = headLength newest + (entryLength + bodyLength newest + 1) * places
 

@@ -1,4 +1,4 @@
--- The longest image is reached: 32 threads are created, and all of them wait for the clock.
+-- The longest image is reached: a thread is created for every place, and all of them wait for the clock.
 use Prim.Native.Nat.{ℕ, zero, suc}
 use mathlib.Core.Path.{_≡_, refl}
 use mathlib.Core.List.{List, _++_}

@@ -4,21 +4,39 @@ ghost use mathlib.Core.Path.{_≡_};
 ghost use Prim.Native.Nat.{_<_};
 ghost use Rattle.saving.specs.Format.{rowOf, newest as newestRow, totalAt, headLength, bodyLength};
 
-// A row of the table of editions: what an edition has of the format. Its queues are the lines 0, 1, ..; its bodies have a parent, or not.
+// A row of the table of editions: what an edition has of the format. Its queues are the lines 0, 1, ..; its bodies have a parent, or not; it
+// may name the places 0, 1, ..
 pub struct Row {
     pub edition: u8,
     pub queues: u8,
     pub parents: bool,
+    pub places: u8,
 }
 
 // The newest edition, which is the last that the table has.
-pub const NEWEST: u8 = 3;
+pub const NEWEST: u8 = 4;
+
+// Every queue that there is.
+const ALL: u8 = lines::QUEUES as u8;
 
 // How many queues each edition has, by its number: edition 1 has ready and clock, those behind it all. An edition that has none is not known.
-const QUEUES_BY: [u8; NEWEST as usize + 1] = [0, 2, lines::QUEUES as u8, lines::QUEUES as u8];
+const QUEUES_BY: [u8; NEWEST as usize + 1] = [0, 2, ALL, ALL, ALL];
 
 // Which editions have each thread's parent.
-const PARENTS_BY: [bool; NEWEST as usize + 1] = [false, false, false, true];
+const PARENTS_BY: [bool; NEWEST as usize + 1] = [false, false, false, true, true];
+
+// The places that there were before P6.
+const PLACES_BEFORE: u8 = 32;
+
+// How many places each edition may name, by its number: the editions below 4 those that there were before P6, and edition 4 every one. In all else edition 4
+// has edition 3's layout.
+const PLACES_BY: [u8; NEWEST as usize + 1] = [
+    0,
+    PLACES_BEFORE,
+    PLACES_BEFORE,
+    PLACES_BEFORE,
+    lines::PLACES as u8,
+];
 
 // Head: edition, last number, running place or 255, live count, a length for each queue, total length (2 bytes).
 pub const EDITION_AT: usize = 0;
@@ -63,7 +81,7 @@ pub const INBOX_LENGTH_AT: usize = 12;
 
 pub const PARENT_AT: usize = 13;
 
-// The row of an edition, with no queues and no parents where it is not known.
+// The row of an edition, with no queues, no parents and no places where it is not known.
 pub fn row_of(edition: u8) -> Row
     ensures { λ r. ⌜ r ≡ rowOf edition ⌝ }
 {
@@ -72,16 +90,18 @@ pub fn row_of(edition: u8) -> Row
             edition: edition,
             queues: 0,
             parents: false,
+            places: 0,
         };
     }
     Row {
         edition: edition,
         queues: QUEUES_BY[edition as usize],
         parents: PARENTS_BY[edition as usize],
+        places: PLACES_BY[edition as usize],
     }
 }
 
-// The newest edition has every queue, and parents.
+// The newest edition has every queue, parents, and every place.
 pub fn newest() -> Row
     ensures { λ r. ⌜ r ≡ newestRow ⌝ }
 {

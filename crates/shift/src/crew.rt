@@ -20,8 +20,8 @@ const TURNS: u32 = 32;
 
 const INTERRUPTS: u32 = 5;
 
-// A driver who signs off is picked among so many places. At an empty one somebody signs on or is started, so about half of them stay filled.
-const PICKED: u32 = 24;
+// A driver who signs off is picked among all places. At an empty one somebody signs on or is started: the fewer live, the likelier that is.
+const PICKED: u32 = lines::PLACES as u32;
 
 // The next throw of the dice, 0 to 65,536. The same seed gives the same shift.
 pub fn throw(dice: u32) -> u32 {

@@ -63,7 +63,7 @@ pub record Whole (b w l : List ℕ) : Type 0 where
 abbrev pub standsAt : List ℕ → ℕ → Bool
 standsAt b p = not (eqb (getD b (cell 1 p) 0) Empty)
 
--- The set of filled places is one 32-bit word: the word of the places where a thread stands
+-- The set of filled places is one 64-bit word: the word of the places where a thread stands
 abbrev pub Filled : ℕ → List ℕ → Type 0
 Filled x b = x ≡ wordOf places (standsAt b)
 

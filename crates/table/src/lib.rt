@@ -54,7 +54,7 @@ pub const INBOX_LINES: u8 = lines::QUEUES as u8;
 
 // The set of filled places, the last number given, and the running place.
 pub struct Desk {
-    pub filled: u32,
+    pub filled: u64,
     pub last: Number,
     pub running: Place,
 }

@@ -1,13 +1,13 @@
 -- "An edition 1 image with such a receiver: load 10, update wakes it" (document 02, P2): thread 1 was created and has ended, and 0 receives from it still,
 -- as the old rules had it. A row of the table of counted cases (recovery), and tied to what load and the update load promise.
-use Prim.Native.Nat.{ℕ, zero, suc, _≤_}
+use Prim.Native.Nat.{ℕ, zero, suc, _-_, _≤_}
 use mathlib.Core.Path.{_≡_, refl, subst}
 use mathlib.Core.Logic.{_≢_}
 use mathlib.Core.List.{List, [], _∷_, _++_}
 use native.Mathlib.Omega.{arith}
 use lib.ListN.{replicate}
 use Rattle.lists.specs.Lists.{none, tally}
-use Rattle.lists.specs.Sizes.{devices}
+use Rattle.lists.specs.Sizes.{places, devices}
 use Rattle.lists.specs.Tables.{all-same}
 use Rattle.rules.specs.Values.{nobody}
 use Rattle.rules.specs.Model.{lineCount, Empty, Running, Sending, Awaiting, Receiving, Thread, vacant, Model, thread, line, allPlaces}
@@ -19,7 +19,7 @@ use Rattle.order.specs.Sound.{Fit, Sound, old-whole}
 use Rattle.order.specs.Belongs.{Lineless, in-none}
 use Rattle.order.specs.End.{fit-vacant}
 use Rattle.nucleus.specs.View.{Shows}
-use Rattle.saving.specs.Format.{queuesOf, parentsOf, rowOf, Known, Holds, queuesIn, encodeAs}
+use Rattle.saving.specs.Format.{queuesOf, parentsOf, placesOf, rowOf, Known, Holds, queuesIn, encodeAs}
 use Rattle.saving.specs.Editions.{known-of}
 use Rattle.loading.specs.Loads.{Foreign, Loads, OldImage}
 use Rattle.loading.specs.Injective.{image-one}
@@ -34,12 +34,12 @@ listener = record { number = 0; standing = Receiving; partner = 1; word = 0; cod
 
 -- 1 is the last number given, and nobody has it
 abbrev deserter : Model
-deserter = record { last = 1; running = none; threads = listener ∷ replicate 31 vacant; lines = replicate lineCount [] }
+deserter = record { last = 1; running = none; threads = listener ∷ replicate (places - 1) vacant; lines = replicate lineCount [] }
 
 -- ---- the old rules call it consistent, and the rules as they are do not
 
 others : (p : ℕ) → thread deserter (suc p) ≡ vacant
-others p = all-same 31 p vacant
+others p = all-same (places - 1) p vacant
 
 abbrev no-places : List ℕ
 no-places = []
@@ -104,7 +104,7 @@ before =
 
 abbrev behind : List ℕ
 behind =
-    3 ∷ 1 ∷ 0 ∷ 1 ∷ 0 ∷ 0 ∷ replicate devices 0 ++ (74 ∷ 0 ∷ [])
+    4 ∷ 1 ∷ 0 ∷ 1 ∷ 0 ∷ 0 ∷ replicate devices 0 ++ (74 ∷ 0 ∷ [])
     ++ (0 ∷ 0 ∷ 60 ∷ 0 ∷ [])
     ++ (1 ∷ 255 ∷ 0 ∷ 0 ∷ 0 ∷ 0 ∷ 16 ∷ 1 ∷ 0 ∷ 0 ∷ 0 ∷ 0 ∷ 0 ∷ 255 ∷ [])
 
@@ -112,8 +112,13 @@ old-known : Known (rowOf 1)
 unfolding queuesOf
 old-known = known-of 1 (λ z. omega arith)
 
+alone : (p : ℕ) → rowOf 1 .places ≤ p → thread deserter p .standing ≡ Empty
+unfolding placesOf
+alone zero h = absurd (omega arith)
+alone (suc p) h = rw (others p)
+
 holds : Holds (rowOf 1) deserter
-holds = record { queues = λ q _ _. lineless q; parents = λ _. parentless }
+holds = record { queues = λ q _ _. lineless q; parents = λ _. parentless; places = λ p h _. alone p h }
 
 image : OldImage deserter before
 unfolding encodeAs queuesOf parentsOf queuesIn allPlaces tally

@@ -17,7 +17,8 @@ const RECORD: u8 = 3;
 
 const READER: u8 = 4;
 
-// A file of vectors is no longer than this: more than twice what vectors/make.py makes of its tables.
+// A file of vectors is no longer than this: more than one and a half times what vectors/make.py makes of its tables. With room for twice as much as this the
+// checker runs out of stack.
 const ROOM: usize = 524288;
 
 fn main() {

@@ -1,4 +1,4 @@
--- `count` meets its contract. A word of 32 digits has at most 32 that are 1, so the number fits a byte. Assumes nothing.
+-- `count` meets its contract. A word has no more digits that are 1 than it has digits, so the number fits a byte. Assumes nothing.
 use mathlib.Core.Path.{ap, _∙_}
 use native.Mathlib.Omega.{arith}
 use lib.Count.{ones, ones-le}

@@ -1,4 +1,4 @@
--- `lowest` meets its contract. There are at most 32 zeros below the lowest 1, so the number fits a byte. Assumes nothing.
+-- `lowest` meets its contract. No more zeros are below the lowest 1 than the word has digits, so the number fits a byte. Assumes nothing.
 use mathlib.Core.Path.{ap, _∙_}
 use Prim.Native.Nat.{ℕ, _-_, _^_}
 use lib.Count.{trailingZeros, trailing-le}

@@ -2,7 +2,7 @@
 -- nothing.
 use mathlib.Core.Path.{refl}
 use borrow.Author.Tests.{not-true, not-false}
-use Rattle.saving.specs.Editions.{known-few}
+use Rattle.saving.specs.Editions.{known-few, known-places}
 use Rattle.loading.specs.Loads.{foreign, accepted}
 use Rattle.loading.specs.Judges.{row-known, old-consists, bare-holds, foreign-not, foreign-full, foreign-other}
 use borrow.Author.Needs.{needs}
@@ -15,7 +15,8 @@ row-at-requires c κs = search needs
 candidate-requires : tie.Need-candidate-requires
 candidate-requires c κs =
     let start = c .before .before in
-    known-few (row-known (start .args .image .now) (c .row-at .ensures) (start .pre))
+    let k = row-known (start .args .image .now) (c .row-at .ensures) (start .pre) in
+    (known-few k, known-places k)
 
 consists-requires : tie.Need-consists-requires
 consists-requires c κs = search needs
@@ -81,7 +82,7 @@ returns-4 c =
         record {
           known = row-known (start .args .image .now) (at-row .row-at .ensures) (start .pre);
           consistent = k .consistent;
-          holds = bare-holds (at-row .row-at .result) (at-candidate .candidate .result) (at-holds .holds .ensures .yes (not-false _ (at-if2 .if2 .left))) (at-candidate .candidate .ensures .1);
+          holds = bare-holds (at-row .row-at .result) (at-candidate .candidate .result) (at-holds .holds .ensures .yes (not-false _ (at-if2 .if2 .left))) (at-candidate .candidate .ensures .1) (at-candidate .candidate .ensures .2);
           bytes = at-same .same .ensures .yes (not-false _ (c .if3 .left));
         },
       );

@@ -1,6 +1,6 @@
 -- `candidate` meets its contract: the queues and all entries have been read. Assumes nothing.
 use mathlib.Core.Path.{_∙_}
-use Rattle.loading.specs.Enters.{candidate-parentless, candidate-shows}
+use Rattle.loading.specs.Enters.{candidate-parentless, candidate-beyond, candidate-shows}
 use borrow.Author.Needs.{needs}
 use Rattle.loading.proofs.read.candidate.Statement.{statement}
 use Rattle.loading.proofs.read.candidate.Tie as tie
@@ -44,6 +44,7 @@ returns c =
     let en = at-wide .wide .ensures .0 ∙ at-at .at .ensures in (
       candidate-shows (at-clear .clear .ensures) (at-fresh .fresh .ensures) (at-queues .queues .ensures) (at-entries .entries .ensures) en (at-filling .filling .ensures) (c .before .at2 .ensures) (c .at3 .ensures),
       candidate-parentless (at-clear .clear .ensures) (at-fresh .fresh .ensures) (at-queues .queues .ensures) (at-entries .entries .ensures) en (at-filling .filling .ensures) (c .before .at2 .ensures) (c .at3 .ensures),
+      candidate-beyond (at-clear .clear .ensures) (at-fresh .fresh .ensures) (at-queues .queues .ensures) (at-entries .entries .ensures) en (at-filling .filling .ensures) (c .before .at2 .ensures) (c .at3 .ensures),
     )
 
 pub candidate-spec : {M : Type 1} → statement M

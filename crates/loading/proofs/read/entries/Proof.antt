@@ -15,10 +15,10 @@ abbrev μ-loop : tie.MeasureT-loop
 μ-loop row image n b₀ w₀ l₀ i₀ b w l i = n - i
 
 loop-holds : tie.Need-loop-holds Inv-loop μ-loop
-loop-holds c = (omega arith, entered-none (c .before .pre .1))
+loop-holds c = (omega arith, entered-none (c .before .pre .2))
 
 enter-requires : tie.Need-enter-requires Inv-loop μ-loop
-enter-requires c κs = (search needs, c .before .before .before .before .loop .inv .1 .sized)
+enter-requires c κs = (search needs, search needs, c .before .before .before .before .loop .inv .1 .sized)
 
 add-i : tie.Need-add-i Inv-loop μ-loop
 add-i c = search needs

@@ -5,10 +5,10 @@ use Rattle.shift.proofs.day.crewed.Statement.{statement}
 use Rattle.shift.proofs.day.crewed.Tie as tie
 
 abbrev Inv-loop : tie.InvT-loop
-Inv-loop s₀ i₀ s i = i ≤ 13
+Inv-loop s₀ i₀ s i = i ≤ 41
 
 abbrev μ-loop : tie.MeasureT-loop
-μ-loop s₀ i₀ s i = 13 - i
+μ-loop s₀ i₀ s i = 41 - i
 
 first-requires : tie.Need-first-requires Inv-loop μ-loop
 first-requires c κs = search needs

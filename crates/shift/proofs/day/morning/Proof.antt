@@ -5,10 +5,10 @@ use Rattle.shift.proofs.day.morning.Statement.{statement}
 use Rattle.shift.proofs.day.morning.Tie as tie
 
 abbrev Inv-loop : tie.InvT-loop
-Inv-loop s₀ i₀ s i = i ≤ 100
+Inv-loop s₀ i₀ s i = i ≤ 200
 
 abbrev μ-loop : tie.MeasureT-loop
-μ-loop s₀ i₀ s i = 100 - i
+μ-loop s₀ i₀ s i = 200 - i
 
 crewed-requires : tie.Need-crewed-requires Inv-loop μ-loop
 crewed-requires c κs = search needs
