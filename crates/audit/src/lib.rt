@@ -1,6 +1,8 @@
 // The total test of consistency: any desk and any arrays, however mangled, are told apart into those that stand for a consistent nucleus and those that do
 // not. It goes once along every line, four times along the places and once up from each place to its parent's, and keeps three arrays on the way: the line of
 // each place, the place of each number, and the stamp of the walk from parent to parent that came to a place first.
+#![tactic(auto)]
+
 ghost use Rattle.std.specs.Prelude.{◌≡◌, List, [], ℕ, ◌+◌, ◌^◌, ◌<◌, length, get_or};
 ghost use Rattle.lists.specs.Tells.{Tells};
 ghost use Rattle.lines.specs.Lines.{Tidy};

@@ -1,6 +1,8 @@
 // A set of numbers in 256 bits, four words of 64 digits: the empty one, one number more, and the first number after the last one given that is not in it. So
 // create looks once at each place, whatever numbers are barred.
 // Each contract is for whatever set f the words stand for; specs/Set.antt says how a caller uses it.
+#![tactic(auto)]
+
 ghost use Rattle.std.specs.Prelude.{◌≡◌, Bool, false, ℕ, suc, eqb};
 ghost use Rattle.rules.specs.Model.{last_number};
 ghost use Rattle.rules.specs.Rules.{first_free};

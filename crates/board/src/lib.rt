@@ -1,5 +1,7 @@
 // The board (document 01): the board's start code is C. Each entry takes an image, and gives one back, or tells of it; whatever the bytes, every result and
 // every byte of the output buffer is settled. include/rumqatiss.h says the same to those who write C.
+#![tactic(auto)]
+
 ghost use Rattle.std.specs.Prelude.{◌≡◌, ◌≤◌};
 ghost use Rattle.rules.specs.Rules.{outcome};
 ghost use Rattle.nucleus.specs.View.{view, Consists};

@@ -1,5 +1,7 @@
 // Runs the cases of "Loads that were counted" and those of document 02's P1 to P3 and P5 to P7, and every operation on states that are not consistent, and
 // prints what each answers.
+#![tactic(auto)]
+
 use nucleus::{Reply, State};
 use rules::{Number, Place};
 

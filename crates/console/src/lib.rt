@@ -1,5 +1,7 @@
 // What the programs share: reading the file or standard input, and printing what an event answers. What is printed is not proved, but compared with stored
 // output.
+#![tactic(auto)]
+
 ghost use Rattle.std.specs.Prelude.{◌≡◌};
 ghost use Rattle.io.specs.Counts.{IsPrefixLen};
 

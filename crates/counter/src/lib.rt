@@ -1,5 +1,7 @@
 // The counter of numbers (document 01, "The image and the log"): a struct of one field, lent and changed in place. The work is `successor`'s, the
 // plain form; what is lent is proved by hand, so it stays thin.
+#![tactic(auto)]
+
 ghost use Rattle.std.specs.Prelude.{◌≡◌};
 ghost use Rattle.rules.specs.Rules.{successor as successorOf};
 ghost use Rattle.counter.specs.Step.{Advances};

@@ -1,4 +1,6 @@
 // Tells what a dead terminal's cab.img and cab.log come to (docs/DEPOT.md). depot [--loads] [FOLDER ..]: the files in each folder, or in this one.
+#![tactic(auto)]
+
 ghost use Rattle.std.specs.Prelude.{◌+◌, ◌≤◌, length};
 ghost use Rattle.io.specs.Counts.{IsPrefixLen};
 

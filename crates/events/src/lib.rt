@@ -1,5 +1,7 @@
 // What the cores of the events give and promise (`Did`). The cores themselves are in `talk` and `life`; dispatch comes after them, once for all (`threads`).
 // The rules that they are held to are in crate `rules`.
+#![tactic(auto)]
+
 ghost use Rattle.std.specs.Prelude.{◌≡◌};
 ghost use Rattle.events.specs.Events.{answered};
 

@@ -1,5 +1,7 @@
 // The set of filled places in one word: how many there are, the lowest place that is empty, and one place more or less.
 // Each contract is for whatever set f the word x stands for; specs/Filled.antt says how a caller uses it.
+#![tactic(auto)]
+
 ghost use Rattle.std.specs.Prelude.{◌≡◌, Bool, ℕ, ◌<◌};
 ghost use Rattle.lists.specs.Lists.{tally};
 ghost use Rattle.filled.specs.Filled.{width, word_of, including, excluding, lowest_out};

@@ -1,5 +1,7 @@
 // The image of a state, for whoever uses it: saved into a lent buffer (`saving`), loaded from any bytes (`loading`), loaded from a build with the old rules
 // (`updating`), and, here, a thread's part of it looked up by number.
+#![tactic(auto)]
+
 ghost use Rattle.image.specs.Locates.{Locates};
 ghost use Rattle.image.specs.Sees.{Sees, Lies};
 

@@ -1,5 +1,7 @@
 // Lines of places: first come, first served. All lines are linked lists in one lent array of bytes, which is changed in place.
 // Byte p is the place after p in its line; byte PLACES + q the first place of line q; byte LAST + q its last. NONE stands where there is none.
+#![tactic(auto)]
+
 ghost use Rattle.std.specs.Prelude.{◌≡◌, [], ◌∷◌, ◌++◌, ◌+◌, ◌<◌, length};
 ghost use Rattle.lists.specs.Lists.{without, front};
 ghost use Rattle.lists.specs.Tells.{Tells};

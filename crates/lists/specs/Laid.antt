@@ -1,5 +1,5 @@
 -- Bytes laid into a buffer at a position, all others as they were. Assumes nothing.
-use Rattle.std.specs.Prelude.{◌≡◌, refl, List, [], ◌∷◌, ◌++◌, ℕ, suc, ◌+◌, ◌-◌, ◌≤◌, ◌<◌, length, take, drop, set}
+use Rattle.std.specs.Prelude.{◌≡◌, refl, List, [], ◌∷◌, ◌++◌, ℕ, suc, ◌+◌, ◌≤◌, ◌<◌, length, take, drop, set}
 use Rattle.std.proofs.Common.{sym, ap, subst, ◌∙◌, append_assoc, append-nil, add-one, arith, length-append, length-take, length-drop, take-append-drop, length-take-le, take_at, drop_at, take-take, drop-drop}
 use Rattle.std.proofs.Math.Seq.{take-length, paste}
 use Rattle.std.proofs.lemmas.List.{take-append-le, set_split}

@@ -1,6 +1,6 @@
 -- The numbers from k on, and the first of a list that a test holds of. Assumes nothing.
 use Rattle.std.specs.Prelude.{◌≡◌, refl, List, [], ◌∷◌, Bool, true, false, cond, ℕ, zero, suc, ◌+◌, ◌-◌, ◌≤◌, ◌<◌, eqb, length}
-use Rattle.std.proofs.Common.{ap, ◌∙◌, arith, eqb-true}
+use Rattle.std.proofs.Common.{ap, ◌∙◌, sym, subst, arith, eqb-true}
 use Rattle.std.proofs.lemmas.Bool.{eqb-false}
 use Rattle.lists.specs.Lists.{none, count, among, Distinct, first_of, up_from}
 use Rattle.lists.specs.Laws.{by_test, never, not_cons}
@@ -31,7 +31,7 @@ count_up_from zero k s h i = absurd (omega arith)
 count_up_from (suc n) k s h i =
     let ih = count_up_from n (suc k) s in
     by_test (eqb s k)
-    (λ t. let e : s ≡ k = eqb-true s k t in rw (e, count_self k (up_from (suc k) n)) (omega arith))
+    (λ t. let e : s ≡ k = eqb-true s k t in let c = count_self k (up_from (suc k) n) in subst (λ (x : ℕ). 1 ≤ count x (up_from k (suc n))) (sym e) (omega arith))
     (λ t. let z = eqb-false s k t in rw (count_past s k (up_from (suc k) n) z) (ih (omega arith) (omega arith)))
 
 pub up_from_within : (n k s : ℕ) → 1 ≤ count s (up_from k n) → s < k + n

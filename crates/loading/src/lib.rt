@@ -1,4 +1,6 @@
 // Loading: the state of which any bytes are the image, or the code of why there is none.
+#![tactic(auto)]
+
 ghost use Rattle.loading.specs.Loads.{LoadsBy, Loads, LoadsOld};
 
 use nucleus::State;

@@ -1,5 +1,7 @@
 // The nucleus: the state of the cab's threads, and its public operations. None of them asks anything of its caller; only `choose` and `act`, which are for a
 // state that was tested, do.
+#![tactic(auto)]
+
 ghost use Rattle.std.specs.Prelude.{◌≡◌};
 ghost use Rattle.lists.specs.Lists.{none};
 ghost use Rattle.lists.specs.Tells.{Tells};

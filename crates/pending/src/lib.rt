@@ -1,4 +1,6 @@
 // A pending set: which of its indexes is served.
+#![tactic(auto)]
+
 ghost use Rattle.std.specs.Prelude.{◌≡◌};
 ghost use Rattle.rules.specs.Devices.{first_pending};
 

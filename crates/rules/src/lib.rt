@@ -1,4 +1,6 @@
 // The types that the rules speak of. The rules themselves are in specs/.
+#![tactic(auto)]
+
 ghost use Rattle.std.specs.Prelude.{◌≡◌, ◌<◌};
 ghost use Rattle.rules.specs.Values.{kind_of, choice_kind, choice_runs};
 ghost use Rattle.rules.specs.Devices.{on_line, of_terminal, index_of};

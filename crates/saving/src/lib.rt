@@ -1,5 +1,7 @@
 // Saving: the image of a consistent state is written from front to back, as specs/Format.antt has it; the head comes last, since it tells the total.
 // Each function that writes gives the position behind what it wrote, and leaves every other byte as it was (`Wrote`).
+#![tactic(auto)]
+
 ghost use Rattle.std.specs.Prelude.{◌≡◌, false, [], ◌∷◌, ◌++◌, ◌+◌, ◌*◌, ◌%◌, ◌≤◌, ◌<◌, length};
 ghost use Rattle.lists.specs.Sizes.{places, queue_count, line_count};
 ghost use Rattle.lists.specs.Lists.{bit};

@@ -1,5 +1,7 @@
 // Plays a shift in a pit, of drivers and their displays, a radio, a scale and a keypad, fails the power at every byte of its log, and says whether each waiting
 // load, and each driver at the scale or the keypad, came back to its place.
+#![tactic(auto)]
+
 mod book;
 mod crew;
 mod cuts;

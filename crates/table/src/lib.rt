@@ -1,5 +1,7 @@
 // The thread table: what a place holds, in two lent arrays, and the little that an event keeps beside them. A field of all places stands in a row, so
 // that field k of place p is cell k * PLACES + p.
+#![tactic(auto)]
+
 ghost use Rattle.std.specs.Prelude.{◌≡◌, ℕ, ◌<◌, List, [], get_or};
 ghost use Rattle.lines.specs.Lines.{Tidy};
 ghost use Rattle.rules.specs.Model.{places, line_count, vacant};

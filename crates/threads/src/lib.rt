@@ -1,4 +1,6 @@
 // Level 3: the ten events on lent arrays, changed in place.
+#![tactic(auto)]
+
 ghost use Rattle.table.specs.Cells.{Stands};
 ghost use Rattle.events.specs.Events.{Did};
 ghost use Rattle.threads.specs.Ran.{Ran};

@@ -1,5 +1,7 @@
 // The update load (document 02, P2): the way over to today's rules for a terminal in the field. It takes what the old rules call consistent, and wakes those
 // who listen for the dead, so that nobody waits for a dead thread, and no load is lost.
+#![tactic(auto)]
+
 ghost use Rattle.std.specs.Prelude.{false, [], ◌≡◌, ◌<◌};
 ghost use Rattle.rules.specs.Model.{places};
 ghost use Rattle.rules.specs.Rules.{deserted, updated};

@@ -1,4 +1,6 @@
 // Runs outside vectors: a line for each says its kind and what is answered. vectors FILE: needs a file of vectors, crates/vectors/data/vectors or one like it.
+#![tactic(auto)]
+
 ghost use Rattle.std.specs.Prelude.{◌≤◌, ◌<◌, length};
 
 mod buffers;

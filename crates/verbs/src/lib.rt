@@ -1,4 +1,6 @@
 // The verbs: what happens to one place, from which every event is made. Each is named as the rules name it.
+#![tactic(auto)]
+
 ghost use Rattle.std.specs.Prelude.{◌≡◌, ◌<◌};
 ghost use Rattle.lines.specs.Lines.{line_of, Loose};
 ghost use Rattle.rules.specs.Model.{places, line_count};
