@@ -2,11 +2,7 @@
 use native.Mathlib.Omega.{arith}
 use Rattle.lines.specs.Blank.{blank_clear}
 use Rattle.lists.specs.Sizes.{places, line_count}
-use Rattle.lines.proofs.fresh.Statement.{statement}
-use Rattle.lines.proofs.fresh.Tie as tie
+use Rattle.lines.proofs.fresh.Goals as goal
 
-returns : tie.Need-returns
+pub returns : goal.returns
 returns c = blank_clear places line_count (omega arith)
-
-pub fresh-spec : {M : Type 1} → statement M
-fresh-spec = tie.close (tie.spec returns)
