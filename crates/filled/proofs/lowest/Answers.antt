@@ -5,14 +5,10 @@ use lib.Count.{count_trailing_zeros, trailing_le}
 use Rattle.filled.specs.Filled.{width}
 use Rattle.filled.specs.Bits.{fits_byte}
 use Rattle.filled.specs.Lowest.{word_lowest}
-use Rattle.filled.proofs.lowest.Statement.{statement}
-use Rattle.filled.proofs.lowest.Tie as tie
+use Rattle.filled.proofs.lowest.Goals as goal
 
-cast-result : tie.Need-overflow-cast-result
-cast-result c = fits_byte (trailing_le width _)
+pub overflow_cast-result : goal.overflow_cast-result
+overflow_cast-result c = fits_byte (trailing_le width _)
 
-returns : tie.Need-returns
+pub returns : goal.returns
 returns c = λ f e. ap (λ (x : ℕ). count_trailing_zeros width ((2 ^ width - 1) - x)) e ∙ word_lowest width f
-
-pub lowest-spec : {M : Type 1} → statement M
-lowest-spec = tie.close (tie.spec cast-result returns)

@@ -5,14 +5,10 @@ use lib.Count.{ones, ones-le}
 use Rattle.filled.specs.Filled.{width}
 use Rattle.filled.specs.Bits.{fits_byte}
 use Rattle.filled.specs.Words.{word_ones}
-use Rattle.filled.proofs.count.Statement.{statement}
-use Rattle.filled.proofs.count.Tie as tie
+use Rattle.filled.proofs.count.Goals as goal
 
-cast-result : tie.Need-overflow-cast-result
-cast-result c = fits_byte (ones-le width _ (omega arith))
+pub overflow_cast-result : goal.overflow_cast-result
+overflow_cast-result c = fits_byte (ones-le width _ (omega arith))
 
-returns : tie.Need-returns
+pub returns : goal.returns
 returns c = λ f e. ap ones e ∙ word_ones width f
-
-pub count_spec : {M : Type 1} → statement M
-count_spec = tie.close (tie.spec cast-result returns)

@@ -53,6 +53,7 @@ use Rattle.counter.specs.contracts.step.Key.{name as #counter·step}
 use Rattle.counter.specs.contracts.step as step
 use Rattle.counter.proofs.step.Statement as stated
 use Rattle.counter.proofs.step.Code as code
+use Rattle.counter.proofs.step.Goals as goal
 
 abbrev stayed : Stays (step.ended).signature.params (step.ended).kept
 stayed = (stay_none (λ _. N.the_row) yes, tt)

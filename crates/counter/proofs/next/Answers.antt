@@ -50,6 +50,7 @@ use Rattle.counter.specs.contracts.next.Key.{name as #counter·next}
 use Rattle.counter.specs.contracts.next as next
 use Rattle.counter.proofs.next.Statement as stated
 use Rattle.counter.proofs.next.Code as code
+use Rattle.counter.proofs.next.Goals as goal
 
 abbrev stayed : Stays (next.ended).signature.params (next.ended).kept
 stayed = (stay_ref (0 ∷ []) tt (plain (λ _. T.the_row)), tt)
