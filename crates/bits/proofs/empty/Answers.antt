@@ -2,11 +2,7 @@
 use mathlib.Core.Path.{sym}
 use Rattle.bits.specs.Set.{word_digits, word_count}
 use Rattle.bits.specs.Words.{words_none}
-use Rattle.bits.proofs.empty.Statement.{statement}
-use Rattle.bits.proofs.empty.Tie as tie
+use Rattle.bits.proofs.empty.Goals as goal
 
-returns : tie.Need-returns
+pub returns : goal.returns
 returns c = sym (words_none word_digits word_count)
-
-pub empty-spec : {M : Type 1} → statement M
-empty-spec = tie.close (tie.spec returns)
