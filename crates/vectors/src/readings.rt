@@ -19,13 +19,13 @@ fn reading(rt: &impl Print, log: &[u8], at: usize) -> io::Result<()> {
     console::say(rt, got.code() as u64, b" ")?;
     bytes_of(rt, got, log, at, next)?;
     console::text(rt, b" ")?;
-    return console::number(rt, next as u64)
+    console::number(rt, next as u64)
 }
 
 // The bytes of the record that was read, from a position to the next, or `-` where none was.
 fn bytes_of(rt: &impl Print, got: Read, log: &[u8], at: usize, next: usize) -> io::Result<()> {
     let Read::Record { event: _, next: _ } = got else {
-        console::text(rt, b"-");
+        return console::text(rt, b"-");
     };
     record(rt, log, at, next)
 }
