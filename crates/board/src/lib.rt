@@ -17,7 +17,7 @@ use nucleus::State;
 use rules::{Choice, Event, Number, codes};
 
 // What one record comes to: code, choice and next, the number given, and the new image's length.
-#[derive(Drop)]
+#[derive(Clone, Copy)]
 pub struct Told {
     pub code: u8,
     pub choice: u8,
@@ -27,7 +27,7 @@ pub struct Told {
 }
 
 // What a log comes to: code, choice and next, how many whole records and bytes were read, and the new image's length.
-#[derive(Drop)]
+#[derive(Clone, Copy)]
 pub struct Brought {
     pub code: u8,
     pub choice: u8,
@@ -38,7 +38,7 @@ pub struct Brought {
 }
 
 // What an update comes to: code, choice and next, and the new image's length.
-#[derive(Drop)]
+#[derive(Clone, Copy)]
 pub struct Carried {
     pub code: u8,
     pub choice: u8,

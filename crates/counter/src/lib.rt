@@ -9,7 +9,7 @@ ghost use Rattle.counter.specs.Step.{Advances};
 use rules::Number;
 
 // The last number given.
-#[derive(Drop)]
+#[derive(Clone, Copy)]
 pub struct Counter {
     pub last: Number,
 }

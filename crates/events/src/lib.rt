@@ -9,7 +9,7 @@ use rules::Number;
 use table::Desk;
 
 // What comes of an event: its code, the desk, and the number given, NOBODY where none is.
-#[derive(Drop)]
+#[derive(Clone, Copy)]
 pub struct Outcome {
     pub code: u8,
     pub desk: Desk,

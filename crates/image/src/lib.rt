@@ -15,7 +15,7 @@ pub use updating::update;
 
 // Where a thread's body stands in an image, with code 0. With load's own code where load refuses the image, or 4 where the number is not live in it, there is
 // no body, and offset and length are 0.
-#[derive(Drop)]
+#[derive(Clone, Copy)]
 pub struct Part {
     pub code: u8,
     pub offset: usize,

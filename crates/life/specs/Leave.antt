@@ -121,5 +121,5 @@ module _ (d : Desk) (b l : List ℕ) {p : ℕ} (h : p < places) where
 
     pub leaves_line : (q ≡ none → ⊥) → {l' : List ℕ} → Turned places line_count l l' q (without p (line_of places l q)) → Leaves d b l p d l'
     leaves_line z t w k =
-        let v = stays {d = d} (left k (leaves_low b p s u z) t) in
+        let v = stays {d = d} (left k (leaves_low b p s u z) p t) in
         record { whole = v.whole; filled = refl; seen = v.seen ∙ sym (out_as_lem w ∙ rw (ne_eqb q none z)) }

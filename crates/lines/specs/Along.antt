@@ -1,6 +1,6 @@
 -- Going along a line, from a place to the next. Assumes nothing.
 use Rattle.std.specs.Prelude.{◌≡◌, refl, List, [], ◌∷◌, true, false, cond, ℕ, ◌+◌, ◌≤◌, ◌<◌, eqb, get_or}
-use Rattle.std.proofs.Common.{◌∙◌, eq-eqb, ne_eqb, eqb-true}
+use Rattle.std.proofs.Common.{sym, ap, ◌∙◌, eq-eqb, ne_eqb, eqb-true}
 use Rattle.lists.specs.Lists.{none, among, Distinct, front, rest}
 use Rattle.lists.specs.Laws.{by_test, never, not_head, not_tail, front_not}
 use Rattle.lines.specs.Lines.{line_of, Path, Tidy, next_in}
@@ -41,8 +41,15 @@ from_next p (x ∷ xs) d n h =
     let ih = from_next p xs d.1 (not_tail none x xs n) in
     let ne = not_head none x xs n in
     by_test (eqb x p)
-    (λ e. rw e (from_other x (front xs) xs (front_not x xs d.0 ne) ∙ from_front xs))
-    (λ e. let g : among p xs ≡ true = rw e at h in rw e (from_other x (next_in p xs) xs (next_in_lem p xs x d.0 ne) ∙ ih g))
+    (λ e.
+        let u : next_in p (x ∷ xs) ≡ front xs = rw e in
+        let v : on_from p (x ∷ xs) ≡ x ∷ xs = rw e in
+        ap (λ i. on_from i (x ∷ xs)) u ∙ from_other x (front xs) xs (front_not x xs d.0 ne) ∙ from_front xs ∙ sym (ap rest v))
+    (λ e.
+        let g : among p xs ≡ true = rw e at h in
+        let u : next_in p (x ∷ xs) ≡ next_in p xs = rw e in
+        let v : on_from p (x ∷ xs) ≡ on_from p xs = rw e in
+        ap (λ i. on_from i (x ∷ xs)) u ∙ from_other x (next_in p xs) xs (next_in_lem p xs x d.0 ne) ∙ ih g ∙ sym (ap rest v))
   where
     from_other : (x y : ℕ) (xs : List ℕ) → (x ≡ y → ⊥) → on_from y (x ∷ xs) ≡ on_from y xs
     from_other x y xs k = rw (ne_eqb x y k)

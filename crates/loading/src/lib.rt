@@ -13,7 +13,7 @@ mod read;
 pub use judge::row_at;
 
 // What load answers: document 01's code, and the state.
-#[derive(Drop)]
+#[derive(Clone, Copy)]
 pub struct Loaded {
     pub code: u8,
     pub state: State,

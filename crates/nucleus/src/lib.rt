@@ -18,7 +18,7 @@ use lines::Links;
 use rules::{Choice, Device, Event, Number, Pending, Place, codes};
 use table::{Blocks, Desk, Thread, Words};
 
-#[derive(Drop)]
+#[derive(Clone, Copy)]
 pub struct State {
     pub filled: u64,
     pub last: Number,
@@ -29,7 +29,7 @@ pub struct State {
 }
 
 // What an event answers: the next state, with a code and the choice, and the number given to a new thread.
-#[derive(Drop)]
+#[derive(Clone, Copy)]
 pub struct Reply {
     pub state: State,
     pub code: u8,

@@ -2,11 +2,11 @@
 use Prim.Native.Nat.{ℕ, zero, suc, ◌+◌, ◌≤◌, ◌<◌}
 use Rattle.std.specs.Prelude.{◌≡◌, ◌≢◌, List, [], ◌∷◌, Bool, length, ltb}
 use Rattle.std.proofs.Math.Path.{refl}
-use Rattle.std.proofs.Common.{ap, arith, ltb-true, ltb-false}
+use Rattle.std.proofs.Common.{sym, ap, arith, eq-eqb, ltb-true, ltb-false}
 use Rattle.std.proofs.Math.Bool.{true, false, cond}
 use Rattle.std.proofs.Math.Decide.{ℕ_discrete, dec_lt}
 use Rattle.lists.specs.Lists.{count}
-use Rattle.lists.specs.Counts.{count_self, count_past, among_some, count_distinct}
+use Rattle.lists.specs.Counts.{count_past, among_some, count_distinct}
 use Rattle.lists.specs.Without.{pigeons}
 use Rattle.rules.specs.Values.{nobody}
 use Rattle.rules.specs.Model.{last_number}
@@ -53,12 +53,14 @@ unfolding candidates
 once zero n x h i = omega arith
 once (suc k) n x h i = elim (ℕ_discrete x (successor n)) [
   | no z ↦ let c = count_past x (successor n) (candidates k (successor n)) z in let r = once k (successor n) x (successor_low n h) (omega arith) in omega arith
-  | yes e ↦ rw e (let c = count_self (successor n) (candidates k (successor n)) in
-      elim (dec_lt 0 (count (successor n) (candidates k (successor n)))) [
-        | no j ↦ omega arith
-        | yes j ↦ let v = (near k (successor n) (successor n) (successor_low n h) j).1 (omega arith) in absurd (omega arith)
-      ])
+  | yes e ↦ let c = count_here x (successor n) (candidates k (successor n)) e in elim (dec_lt 0 (count x (candidates k (successor n)))) [
+      | no j ↦ omega arith
+      | yes j ↦ let v = (near k (successor n) x (successor_low n h) j).1 (omega arith) in absurd (omega arith)
+    ]
 ]
+  where
+    count_here : (x s : ℕ) (l : List ℕ) → x ≡ s → count x (s ∷ l) ≡ suc (count x l)
+    count_here x s l e = rw (eq-eqb s x (sym e)) (omega arith)
 
 length_candidates : (k n : ℕ) → length (candidates k n) ≡ k
 unfolding candidates

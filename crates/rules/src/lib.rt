@@ -9,19 +9,19 @@ pub mod codes;
 pub mod kinds;
 
 // A thread's number, 0 to 253. 255 is nobody, or anyone.
-#[derive(Drop)]
+#[derive(Clone, Copy)]
 pub struct Number(pub u8);
 
 // A place, 0 to 63. 255 is none. A place is no number: neither can stand where the other is asked for.
-#[derive(Drop)]
+#[derive(Clone, Copy)]
 pub struct Place(pub u8);
 
 // A device's index, 0 to 47: a third kind. 255 is none.
-#[derive(Drop)]
+#[derive(Clone, Copy)]
 pub struct Device(pub u8);
 
 // A pending set of exactly 48 bits, one for each device, index 0 lowest: those of the indexes 0 to 31, and those of 32 to 47.
-#[derive(Drop)]
+#[derive(Clone, Copy)]
 pub struct Pending {
     pub low: u32,
     pub high: u16,
@@ -51,7 +51,7 @@ pub const WAITING: u8 = 6;
 pub const AT_DEVICE: u8 = 7;
 
 // What happens to the nucleus (document 01, "The eight events", and document 02, P1).
-#[derive(Drop)]
+#[derive(Clone, Copy)]
 pub enum Event {
     Create,
     Send { to: Number, word: u32 },
@@ -66,7 +66,7 @@ pub enum Event {
 }
 
 // What raises an interrupt: a device of the lines 3 to 6, or a half of a terminal on line 7.
-#[derive(Drop)]
+#[derive(Clone, Copy)]
 pub enum Port {
     Device { line: u8, device: u8 },
     Transmitter { terminal: u8 },
@@ -74,7 +74,7 @@ pub enum Port {
 }
 
 // Who runs next, or why nobody does.
-#[derive(Drop)]
+#[derive(Clone, Copy)]
 pub enum Choice {
     Run(Number),
     Halt,

@@ -5,7 +5,7 @@ ghost use Rattle.saving.specs.Format.{row_of, newest as newestRow, total_at, hea
 
 // A row of the table of editions: what an edition has of the format. Its queues are the lines 0, 1, ..; its bodies have a parent, or not; it
 // may name the places 0, 1, ..
-#[derive(Drop)]
+#[derive(Clone, Copy)]
 pub struct Row {
     pub edition: u8,
     pub queues: u8,

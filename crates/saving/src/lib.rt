@@ -163,7 +163,7 @@ fn put_body(
 }
 
 // Where the next entry of the contents goes, and where the body that it names starts.
-#[derive(Drop)]
+#[derive(Clone, Copy)]
 struct Cursor {
     at: usize,
     body: u32,
@@ -329,7 +329,7 @@ pub fn write(row: Row, b: &Blocks, w: &Words, l: &Links, d: Desk, out: &mut [u8]
 }
 
 // What comes of saving: the code, and the length of the image, 0 where there is none.
-#[derive(Drop)]
+#[derive(Clone, Copy)]
 pub struct Saved {
     pub code: u8,
     pub length: usize,

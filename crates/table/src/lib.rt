@@ -51,7 +51,7 @@ pub const DEVICE_LINES: u8 = 2;
 pub const INBOX_LINES: u8 = lines::QUEUES as u8;
 
 // The set of filled places, the last number given, and the running place.
-#[derive(Drop)]
+#[derive(Clone, Copy)]
 pub struct Desk {
     pub filled: u64,
     pub last: Number,
@@ -59,7 +59,7 @@ pub struct Desk {
 }
 
 // The answer to a thread's last finished call.
-#[derive(Drop)]
+#[derive(Clone, Copy)]
 pub struct Answer {
     pub code: u8,
     pub who: Number,
@@ -67,7 +67,7 @@ pub struct Answer {
 }
 
 // What a place holds.
-#[derive(Drop)]
+#[derive(Clone, Copy)]
 pub struct Thread {
     pub number: Number,
     pub standing: u8,

@@ -86,8 +86,8 @@ module _ {b w l : List ℕ} (k : Whole b w l) {q : ℕ} (h : q < line_count) {l'
     seen = λ y x. (turned t).seen y x ∙ ap (λ (ps : List ℕ). relined q (ps ++ (p ∷ [])) (model_of y x b w l)) (sym (line_at y x b w l q h));
   }
 
-  pub left : {p : ℕ} → Turned places line_count l l' q (without p (line_of places l q)) → Steps b w l b w l' (leave q p)
-  left {p} t = record {
+  pub left : (p : ℕ) → Turned places line_count l l' q (without p (line_of places l q)) → Steps b w l b w l' (leave q p)
+  left p t = record {
     whole = (turned t).whole;
     seen = λ y x. (turned t).seen y x ∙ ap (λ (ps : List ℕ). relined q (without p ps) (model_of y x b w l)) (sym (line_at y x b w l q h));
   }

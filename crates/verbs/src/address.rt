@@ -42,7 +42,7 @@ fn names(b: &Blocks, d: Desk, n: Number) -> u8
 }
 
 // What a caller's naming a thread comes to: where the code is DONE, the place of that live thread, and otherwise the code says why there is none.
-#[derive(Drop)]
+#[derive(Clone, Copy)]
 pub struct Address {
     pub code: u8,
     pub at: Place,

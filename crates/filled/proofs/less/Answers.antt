@@ -1,0 +1,8 @@
+-- `less` meets its contract. Assumes nothing.
+use borrow.Author.Rules.{rules}
+use Rattle.filled.specs.Filled.{width}
+use Rattle.filled.specs.Bits.{word_less, shl_one}
+use Rattle.filled.proofs.less.Goals as goal
+
+pub returns : goal.returns
+returns c = λ f e. rw (shl_one width c.args.p c.requires, e) (word_less width c.args.p f c.requires)

@@ -1,0 +1,31 @@
+-- `survey` meets its contract. The loop's invariant: the first q lines are good, and the marks theirs. Assumes nothing.
+use Prim.Native.Nat.{◌≤◌, ◌-◌}
+use mathlib.Core.Path.{◌≡◌, refl}
+use native.Mathlib.Omega.{arith}
+use borrow.Author.Rules.{rules}
+use Rattle.lines.specs.Steps.{DoneUpTo}
+use Rattle.lists.specs.Tells.{tells_no}
+use Rattle.lines.specs.Test.{done_none}
+use borrow.Author.Tests.{not-true, not-false}
+use Rattle.lists.specs.Sizes.{places, line_count}
+use Rattle.lines.proofs.survey.Goals as goal
+
+pub loop-q-init : goal.loop-q-init
+loop-q-init c = (omega arith, done_none refl)
+
+pub mark-requires : goal.mark-requires
+mark-requires c = (c.loop-q-test.true, c.loop-q.invariant.1)
+
+pub returns-then-not-mark : goal.returns-then-not-mark
+returns-then-not-mark c = tells_no (c.mark.ensures.no c.if-not-mark.true)
+
+pub loop-q-preserved : goal.loop-q-preserved
+loop-q-preserved c = (omega arith, c.mark.ensures.yes c.if-not-mark.false)
+
+pub ends-whole-requires : goal.ends-whole-requires
+ends-whole-requires c =
+    let e : c.loop-q.q ≡ line_count = omega arith in
+    rw e at c.loop-q.invariant.1
+
+pub returns : goal.returns
+returns c = c.ends-whole.ensures

@@ -1,0 +1,8 @@
+-- `clean` meets its contract: four stores, one after the other.
+use borrow.Author.Rules.{rules}
+use Rattle.table.specs.Clean.{cleaned}
+use Rattle.table.proofs.clean.Goals as goal
+
+pub returns : goal.returns
+returns c =
+    cleaned c.requires.0 c.requires.1 c.name.ensures c.stand.ensures c.tell.ensures c.raise.ensures

@@ -1,0 +1,20 @@
+-- `clear` meets its contract. The loop's invariant: the places passed are clean.
+use Prim.Native.Nat.{◌≤◌, ◌-◌}
+use mathlib.Core.Path.{◌≡◌}
+use native.Mathlib.Omega.{arith}
+use borrow.Author.Rules.{rules}
+use Rattle.rules.specs.Model.{places}
+use Rattle.table.specs.Clean.{Emptied, emptied_none, emptied_more}
+use Rattle.table.proofs.clear.Goals as goal
+
+pub loop-p-init : goal.loop-p-init
+loop-p-init c = (omega arith, emptied_none c.requires)
+
+pub clean-requires : goal.clean-requires
+clean-requires c = (c.loop-p.invariant.1.sized, c.loop-p-test.true)
+
+pub loop-p-preserved : goal.loop-p-preserved
+loop-p-preserved c = (omega arith, emptied_more c.loop-p.invariant.1 c.loop-p-test.true c.clean.ensures)
+
+pub returns : goal.returns
+returns c = let e : c.loop-p.p ≡ places = omega arith in rw e at c.loop-p.invariant.1

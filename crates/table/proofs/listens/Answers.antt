@@ -1,0 +1,13 @@
+-- `listens` meets its contract: the two ways are those of `hears`.
+use borrow.Author.Rules.{rules}
+use borrow.Author.Tests.{eq-eqb, ne_eqb}
+use lib.ListN.{get_or}
+use Rattle.table.specs.Cells.{cell}
+use Rattle.table.proofs.listens.Goals as goal
+
+pub returns-then-b-at-ne-RECEIVING : goal.returns-then-b-at-ne-RECEIVING
+returns-then-b-at-ne-RECEIVING c = rw (ne_eqb (get_or c.args.b.now (cell 1 c.args.p.0) 0) 5 c.if-b-at-ne-RECEIVING.true)
+
+pub returns : goal.returns
+returns c =
+    rw (eq-eqb (get_or c.args.b.now (cell 1 c.args.p.0) 0) 5 c.if-b-at-ne-RECEIVING.false)

@@ -1,0 +1,25 @@
+-- `waits` meets its contract. The loop's invariant: nobody stands in the lines passed.
+use borrow.Author.Rules.{rules}
+use native.Mathlib.Omega.{arith}
+use Prim.Native.Nat.{◌-◌}
+use Rattle.lists.specs.Sizes.{queue_count}
+use mathlib.Core.Path.{sym, ◌∙◌}
+use Rattle.table.specs.Choose.{NoneUpTo, none_more, waits_yes, waits_no}
+use Rattle.table.proofs.waits.Goals as goal
+
+pub loop-q-init : goal.loop-q-init
+loop-q-init c = record { from = omega arith; upto = omega arith; empty = λ r a b. absurd (omega arith) }
+
+pub first-requires : goal.first-requires
+first-requires c = (c.requires, omega arith)
+
+pub returns-then-first : goal.returns-then-first
+returns-then-first c =
+    λ d b w. waits_yes c.requires d b w c.loop-q.q c.loop-q.invariant.from (omega (arith, c.loop-q-test.true)) (λ z. c.if-first.true (c.first.ensures ∙ z))
+
+pub loop-q-preserved : goal.loop-q-preserved
+loop-q-preserved c = none_more c.loop-q.invariant (omega (arith, c.loop-q-test.true)) c.first.ensures c.if-first.false
+
+pub returns : goal.returns
+returns c =
+    λ d b w. waits_no c.requires d b w (λ q h g. let u = c.loop-q.invariant.upto in c.loop-q.invariant.empty q h (omega arith))
