@@ -1,7 +1,7 @@
 // Runs outside vectors: a line for each says its kind and what is answered. vectors FILE: needs a file of vectors, crates/vectors/data/vectors or one like it.
 #![tactic(auto)]
 
-ghost use Rattle.std.specs.Prelude.{◌≤◌, ◌<◌, IfOk, length};
+ghost use Rattle.std.specs.Prelude.{◌≡◌, ◌≤◌, ◌<◌, IfOk, length};
 
 use std::io;
 use std::rt::{Env, Files};
@@ -38,8 +38,20 @@ fn main(rt: HostRuntime) -> io::Result<()> {
 }
 
 fn from_file(rt: &(impl Env + Files + Print + Eprint)) -> io::Result<()> {
-    let mut buffer = [0u8; ROOM + 1];
-    let got = console::file(rt, 1, &mut buffer);
+    let mut buffer = blank();
+    lent(rt, &mut buffer)
+}
+
+// A buffer with nothing in it. Its length is all that a caller needs to know, and the checker would go through it byte for byte.
+fn blank() -> [u8; ROOM + 1]
+    ensures { 524289 ≡ length result }
+{
+    [0; ROOM + 1]
+}
+
+// The file's vectors, where the buffer has room for it. It has room for one byte more than may be in it.
+fn lent(rt: &(impl Env + Files + Print + Eprint), buffer: &mut [u8]) -> io::Result<()> {
+    let got = console::file(rt, 1, buffer);
     if got.failed {
         return Ok(());
     }
