@@ -48,11 +48,11 @@ pub record Put (m : Model) (before : List ℕ) (n : ℕ) (a : List ℕ) : Type 0
 pub save-tight : {s : State} {m : Model} {before a : List ℕ} {c n : ℕ} → Shows s m → Saves s before c n a → c ≢ 0 → Tight m before a
 save-tight S (inconsistent k g) z = absurd (k S.consists)
 save-tight S (short k h g) z = record { room = rw S.seen at h; same = g.bytes_are }
-save-tight S (saved k h g) z = absurd (z g.code-is)
+save-tight S (saved k h g) z = absurd (z g.code_is)
 
 pub save-put : {s : State} {m : Model} {before a : List ℕ} {c n : ℕ} → Shows s m → Saves s before c n a → c ≡ 0 → Put m before n a
 save-put S (inconsistent k g) z = absurd (k S.consists)
-save-put S (short k h g) z = let e = g.code-is in absurd (omega arith)
+save-put S (short k h g) z = let e = g.code_is in absurd (omega arith)
 save-put S (saved k h g) z = record { room = rw S.seen at h; size = rw S.seen at g.length_is; bytes = rw S.seen at g.bytes_are }
 
 -- and its length fits in two bytes, whatever came of it
@@ -117,8 +117,8 @@ module _ {image : List ℕ} {l : Loaded} (L : Loads image l) where
 -- ---- the fresh image
 pub fresh-saved : {s : State} {out a : List ℕ} {c n : ℕ} → Shows s fresh → Saves s out c n a → (c, n, a) ≡ fresh_on out
 fresh-saved S (inconsistent k g) = absurd (k S.consists)
-fresh-saved {out = out} S (short k h g) = rw (lt-ltb (length out) (length (encode fresh)) (rw S.seen at h), g.code-is, g.length_is, g.bytes_are) refl
-fresh-saved {out = out} S (saved k h g) = rw (le-ltb (length out) (length (encode fresh)) (rw S.seen at h), g.code-is, g.length_is, g.bytes_are, S.seen) refl
+fresh-saved {out = out} S (short k h g) = rw (lt-ltb (length out) (length (encode fresh)) (rw S.seen at h), g.code_is, g.length_is, g.bytes_are) refl
+fresh-saved {out = out} S (saved k h g) = rw (le-ltb (length out) (length (encode fresh)) (rw S.seen at h), g.code_is, g.length_is, g.bytes_are, S.seen) refl
 
 -- ---- the log
 module _ (s : State) (log out : List ℕ) where

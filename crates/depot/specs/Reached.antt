@@ -159,7 +159,8 @@ module _ (s : Sheet) (n : ℕ) (h : n < limit) where
         let b = text_one (last_line (waiting n)) in
         let c = last_long in
         let d = ap (λ f. f.0) (stand_figures s) in
-        rw stays (omega arith)
+        let e : length (text_bytes (sheet_lines s (stand s) (choice (stand s)) ++ (last_line (waiting n) ∷ []))) ≡ longest_of s = omega arith in
+        ap (λ (m : Model). length (text_bytes (sheet_lines s m (choice m) ++ (last_line (waiting n) ∷ [])))) stays ∙ e
 
 -- an image and a log of which the text is the longest
 pub record Reaches (s : Sheet) : Type 0 where

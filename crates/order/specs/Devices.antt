@@ -1,11 +1,11 @@
 -- Events 9 and 10: wait at a device, interrupt.
 use Rattle.std.specs.Prelude.{ℕ, ◌<◌, ◌≡◌, refl, ◌≢◌, List, [], ◌∷◌, Bool, true, false, cond, eqb}
-use Rattle.std.proofs.Common.{sym, ◌∙◌, arith, eqb-true, ne_eqb, lt-ltb}
+use Rattle.std.proofs.Common.{sym, ◌∙◌, arith, eqb-true, lt-ltb}
 use Rattle.std.proofs.lemmas.Bool.{eqb-false}
 use Rattle.lists.specs.Lists.{none}
 use Rattle.lists.specs.Laws.{and_left, and_right}
 use Rattle.lists.specs.Search.{up_from_within, found_in}
-use Rattle.rules.specs.Model.{devices, Receiving, AtDevice, Model, device, thread, line}
+use Rattle.rules.specs.Model.{devices, AtDevice, Model, device, thread, line}
 use Rattle.rules.specs.Devices.{pends, all_devices, first_pending}
 use Rattle.rules.specs.Rules.{stands, wait_device, served_at, interrupt}
 use Rattle.rules.specs.declared.Pending.{Pending}

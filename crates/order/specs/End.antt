@@ -4,7 +4,7 @@ use Rattle.std.specs.Prelude.{ℕ, ◌≤◌, ◌<◌, ◌≡◌, refl, ◌≢�
 use Rattle.std.proofs.Common.{sym, ap, ◌∙◌, arith, eq-eqb, ne_eqb}
 use Rattle.std.proofs.Math.Decide.{ℕ_discrete}
 use Rattle.lists.specs.Lists.{none, bit, count}
-use Rattle.rules.specs.Model.{places, devices, last_number, line_count, Empty, Running, Ready, Sending, Awaiting, Receiving, Waiting, AtDevice, Thread, vacant, Model, ready, clock, device, inbox, thread, line, all_places}
+use Rattle.rules.specs.Model.{places, last_number, line_count, Empty, Running, Ready, Sending, Awaiting, Receiving, Waiting, AtDevice, Thread, vacant, Model, ready, clock, device, inbox, thread, line, all_places}
 use Rattle.rules.specs.Rules.{place_of, put, leave, out_of_line, handed_back, let_go, awaiting, listening}
 use Rattle.rules.specs.Consistent.{belongs}
 use Rattle.order.specs.ByLine.{at_inbox}

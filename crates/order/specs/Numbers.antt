@@ -54,9 +54,9 @@ once zero n x h i = omega arith
 once (suc k) n x h i = elim (ℕ_discrete x (successor n)) [
   | no z ↦ let c = count_past x (successor n) (candidates k (successor n)) z in let r = once k (successor n) x (successor_low n h) (omega arith) in omega arith
   | yes e ↦ let c = count_here x (successor n) (candidates k (successor n)) e in elim (dec_lt 0 (count x (candidates k (successor n)))) [
-      | no j ↦ omega arith
-      | yes j ↦ let v = (near k (successor n) x (successor_low n h) j).1 (omega arith) in absurd (omega arith)
-    ]
+    | no j ↦ omega arith
+    | yes j ↦ let v = (near k (successor n) x (successor_low n h) j).1 (omega arith) in absurd (omega arith)
+  ]
 ]
   where
     count_here : (x s : ℕ) (l : List ℕ) → x ≡ s → count x (s ∷ l) ≡ suc (count x l)

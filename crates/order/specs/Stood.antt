@@ -5,7 +5,7 @@ use Rattle.lists.specs.Lists.{bit, count, among, Distinct}
 use Rattle.lists.specs.Laws.{by_test, never, and_left, and_right}
 use Rattle.lists.specs.Counts.{none_among, some_among, among_some, count_distinct}
 use Rattle.lists.specs.Tables.{bit_low}
-use Rattle.rules.specs.Model.{places, Empty, AtDevice, Model, ready, clock, device, inbox, thread, line}
+use Rattle.rules.specs.Model.{places, Empty, AtDevice, Model, ready, clock, device, thread, line}
 use Rattle.rules.specs.Consistent.{belongs}
 use Rattle.order.specs.ByLine.{by_line, at_device}
 use Rattle.order.specs.Sound.{Sound, small, member, sending, sent}

@@ -7,7 +7,7 @@ use Rattle.std.proofs.lemmas.Bool.{eqb-false, not-true, not-false}
 use Rattle.lists.specs.Lists.{none, count}
 use Rattle.lists.specs.Laws.{by_test, and_left, and_right}
 use Rattle.rules.specs.Values.{nobody}
-use Rattle.rules.specs.Model.{last_number, Empty, Sending, Awaiting, Receiving, Thread, Model, ready, inbox, thread, line, all_places, lives_at}
+use Rattle.rules.specs.Model.{last_number, Empty, Sending, Awaiting, Receiving, Thread, Model, inbox, thread, line, all_places, lives_at}
 use Rattle.rules.specs.Rules.{place_of, idle, in_use, not_live, dead_source, starts, dispatched, let_go, deserted, updated}
 use Rattle.rules.specs.Consistent.{is_number, as_table, OldConsistent, ListensToLive, Consistent}
 use Rattle.order.specs.Sound.{Fit, Live, Sound, small, old_sound, old_kin, sound}

@@ -1,0 +1,14 @@
+-- `ends` meets its contract. The loop's invariant: the walk from p has come to r. At each step one place fewer has no stamp.
+use native.Mathlib.Omega.{arith}
+use borrow.Author.Rules.{rules}
+use borrow.Author.Tests.{eqb-true, eqb-false, not-true, not-false}
+use Rattle.lists.specs.Lists.{count}
+use Rattle.lists.specs.Tells.{tells_yes}
+use Rattle.audit.specs.Rings.{Walk, fewer, walk_from, walk_on, walk_ends, walk_ring}
+use Rattle.audit.proofs.ends.Given as goal
+
+abbrev pub invariant-loop-r : goal.invariant-loop-r
+invariant-loop-r l = Walk l.b l.who l.stamps l.p l.r
+
+abbrev pub decreases-loop-r : goal.decreases-loop-r
+decreases-loop-r l = count 0 l.stamps

@@ -1,0 +1,20 @@
+-- `every` meets its contract. The loop's invariant: the places passed pass.
+use Prim.Native.Nat.{ℕ, ◌≤◌, ◌<◌, ◌-◌}
+use mathlib.Core.Path.{◌≡◌, sym, ◌∙◌}
+use native.Mathlib.Omega.{arith}
+use borrow.Author.Rules.{rules}
+use Rattle.lists.specs.Tells.{tells_yes, tells_no}
+use borrow.Author.Tests.{not-true, not-false}
+use Rattle.rules.specs.Model.{places}
+use mathlib.Core.Bool.{true}
+use mathlib.Core.List.{[]}
+use borrow.Author.Count.{below_more}
+use Rattle.table.specs.Cells.{model_of}
+use Rattle.audit.specs.Tests.{place_test}
+use Rattle.audit.proofs.every.Given as goal
+
+abbrev pub invariant-loop-p : goal.invariant-loop-p
+invariant-loop-p l = (l.p ≤ places) × ((i : ℕ) → i < l.p → place_test l.strict (model_of 0 l.running.0 l.b l.w []) l.at l.who i ≡ true)
+
+abbrev pub decreases-loop-p : goal.decreases-loop-p
+decreases-loop-p l = places - l.p

@@ -1,0 +1,34 @@
+-- `filling` meets its contract. The loop's invariant: the word is that of the places passed.
+use Prim.Native.Nat.{◌≤◌, ◌-◌}
+use mathlib.Core.Path.{◌≡◌, sym, ap, ◌∙◌}
+use mathlib.Core.Bool.{not}
+use native.Mathlib.Numerals.{add-one}
+use native.Mathlib.Omega.{arith}
+use borrow.Author.Rules.{rules}
+use borrow.Author.Tests.{eq-eqb, ne_eqb}
+use Rattle.rules.specs.Model.{places}
+use mathlib.Core.Logic.{⊎_elim}
+use Rattle.filled.specs.Filled.{word_of, upto}
+use Rattle.filled.specs.Upto.{upto_none, upto_all, upto_in, upto_out}
+use Rattle.table.specs.Cells.{stands_at}
+use Rattle.audit.proofs.filling.Goals as goal
+use Rattle.audit.proofs.filling.Goals.{else-b-p-ne-EMPTY, then-b-p-ne-EMPTY}
+
+pub loop-p-init : goal.loop-p-init
+loop-p-init c = (omega arith, sym (upto_none places (stands_at c.args.b.now)))
+
+pub loop-p-preserved : goal.loop-p-preserved
+loop-p-preserved c =
+    let w = c.loop-p in
+    let h = c.loop-p-test.true in (
+      omega arith,
+      rw add-one (elim c.if-b-p-ne-EMPTY.branch [
+      then-b-p-ne-EMPTY v ↦ v.x-is ∙ v.with-x.ensures (upto w.p (stands_at c.args.b.now)) w.invariant.1 ∙ upto_in places w.p (stands_at c.args.b.now) (ap not (ne_eqb _ _ v.if-b-p-ne-EMPTY.true))
+    | else-b-p-ne-EMPTY v ↦ v.x-is ∙ w.invariant.1 ∙ upto_out places w.p (stands_at c.args.b.now) (ap not (eq-eqb _ _ v.if-b-p-ne-EMPTY.false))
+    ]),
+    )
+
+pub returns : goal.returns
+returns c =
+    let e : c.loop-p.p ≡ places = omega arith in
+    c.loop-p.invariant.1 ∙ rw e (upto_all places (stands_at c.args.b.now))

@@ -1,0 +1,16 @@
+-- `index` meets its contract. The loop's invariant: the places passed are in the index.
+use Prim.Native.Nat.{◌≤◌, ◌-◌}
+use mathlib.Core.Path.{◌≡◌}
+use native.Mathlib.Omega.{arith}
+use borrow.Author.Rules.{rules}
+use Rattle.lists.specs.Tells.{tells_yes, tells_no}
+use borrow.Author.Tests.{not-true, not-false}
+use Rattle.rules.specs.Model.{places}
+use Rattle.audit.specs.Loops.{Indexed}
+use Rattle.audit.proofs.index.Given as goal
+
+abbrev pub invariant-loop-p : goal.invariant-loop-p
+invariant-loop-p l = (l.p ≤ places) × Indexed l.b l.who l.p
+
+abbrev pub decreases-loop-p : goal.decreases-loop-p
+decreases-loop-p l = places - l.p

@@ -1,0 +1,23 @@
+-- `unheard` meets its contract: past the places nobody stands, so nobody waits to hear.
+use borrow.Author.Rules.{rules}
+use mathlib.Core.Path.{ap}
+use mathlib.Core.List.{[]}
+use mathlib.Core.Bool.{not}
+use native.Mathlib.Omega.{arith}
+use borrow.Author.Tests.{eq-eqb, ne_eqb}
+use Rattle.table.specs.Rows.{thread_at, thread_past}
+use Rattle.audit.proofs.unheard.Goals as goal
+
+pub returns-then-t-ne-SENDING : goal.returns-then-t-ne-SENDING
+returns-then-t-ne-SENDING c = λ w. rw (ne_eqb c.args.t.standing 3 c.if-t-ne-SENDING.true)
+
+pub returns-then-r-ge-LIMIT : goal.returns-then-r-ge-LIMIT
+returns-then-r-ge-LIMIT c =
+    λ w.
+    rw (eq-eqb c.args.t.standing 3 c.if-t-ne-SENDING.false, thread_past 0 0 c.args.b.now w [] c.args.r.0 (omega arith))
+
+pub returns : goal.returns
+returns c =
+    λ w.
+    rw (eq-eqb c.args.t.standing 3 c.if-t-ne-SENDING.false, thread_at 0 0 c.args.b.now w [] c.args.r.0 (omega arith))
+    (ap not c.listens.ensures)

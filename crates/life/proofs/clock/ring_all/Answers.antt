@@ -1,0 +1,24 @@
+-- `ring_all` meets its contract: what is left of the clock queue is left to do.
+use native.Mathlib.Omega.{arith}
+use lib.ListN.{length}
+use borrow.Author.Tests.{not-true, not-false}
+use Rattle.lines.specs.Lines.{line_of}
+use Rattle.rules.specs.Model.{places, clock}
+use Rattle.life.specs.Drain.{Draining, drain_start, drain_again, drain_less, drain_end}
+use Rattle.life.specs.Clock.{rings}
+use Rattle.life.proofs.clock.ring_all.Goals as goal
+
+pub loop-init : goal.loop-init
+loop-init c = drain_start c.requires
+
+pub ring-requires : goal.ring-requires
+ring-requires c = (c.loop.invariant.whole, omega arith, omega arith)
+
+pub returns-then-not-ring : goal.returns-then-not-ring
+returns-then-not-ring c = drain_end c.loop.invariant c.ring.ensures (omega arith) c.if-not-ring.true
+
+pub loop-smaller : goal.loop-smaller
+loop-smaller c = drain_less c.loop.invariant c.ring.ensures c.if-not-ring.false
+
+pub loop-preserved : goal.loop-preserved
+loop-preserved c = drain_again c.loop.invariant c.ring.ensures c.if-not-ring.false

@@ -1,0 +1,15 @@
+-- `ring_all` meets its contract: what is left of the clock queue is left to do.
+use native.Mathlib.Omega.{arith}
+use lib.ListN.{length}
+use borrow.Author.Tests.{not-true, not-false}
+use Rattle.lines.specs.Lines.{line_of}
+use Rattle.rules.specs.Model.{places, clock}
+use Rattle.life.specs.Drain.{Draining, drain_start, drain_again, drain_less, drain_end}
+use Rattle.life.specs.Clock.{rings}
+use Rattle.life.proofs.clock.ring_all.Given as goal
+
+abbrev pub invariant-loop : goal.invariant-loop
+invariant-loop l = Draining (rings 0) clock l.initial.b l.initial.w l.initial.l l.b l.w l.l
+
+abbrev pub decreases-loop : goal.decreases-loop
+decreases-loop l = length (line_of places l.l clock)

@@ -1,0 +1,10 @@
+-- `tick` meets its contract: all who waited are woken, and the desk stays.
+use borrow.Author.Rules.{rules}
+use Rattle.life.specs.Clock.{ticks}
+use Rattle.life.proofs.clock.tick.Goals as goal
+
+pub ring_all-requires : goal.ring_all-requires
+ring_all-requires c = c.requires.whole
+
+pub returns : goal.returns
+returns c = ticks c.requires c.ring_all.ensures c.answer.ensures

@@ -1,0 +1,11 @@
+-- `bar` meets its contract: an empty place adds nothing, and another its two numbers.
+use borrow.Author.Rules.{rules}
+use Rattle.life.specs.Gather.{bar_none, bar_both}
+use Rattle.life.proofs.create.bar.Goals as goal
+
+pub returns-then-b-at-eq-EMPTY : goal.returns-then-b-at-eq-EMPTY
+returns-then-b-at-eq-EMPTY c = bar_none c.args.b.now c.args.p.0 c.if-b-at-eq-EMPTY.true
+
+pub returns : goal.returns
+returns c =
+    bar_both c.args.b.now c.args.p.0 c.if-b-at-eq-EMPTY.false c.insert.ensures c.insert-2.ensures

@@ -1,0 +1,22 @@
+-- `gather` meets its contract: the numbers that the places below p bar are in the set.
+use borrow.Author.Rules.{rules}
+use mathlib.Core.Path.{◌≡◌}
+use Prim.Native.Nat.{◌-◌, ◌≤◌}
+use native.Mathlib.Omega.{arith}
+use Rattle.rules.specs.Model.{places}
+use Rattle.bits.specs.Set.{Adds}
+use Rattle.life.specs.Number.{bars_from}
+use Rattle.life.specs.Gather.{gather_none, gather_more}
+use Rattle.life.proofs.create.gather.Goals as goal
+
+pub loop-p-init : goal.loop-p-init
+loop-p-init c = (omega arith, gather_none _)
+
+pub loop-p-preserved : goal.loop-p-preserved
+loop-p-preserved c =
+    (omega (arith, c.loop-p-test.true), gather_more _ _ c.loop-p.invariant.1 c.bar.ensures)
+
+pub returns : goal.returns
+returns c =
+    let z : c.loop-p.p ≡ places = omega arith in
+    rw z at c.loop-p.invariant.1

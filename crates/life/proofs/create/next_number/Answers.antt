@@ -1,0 +1,9 @@
+-- `next_number` meets its contract: the set has the barred numbers and no others.
+use borrow.Author.Rules.{rules}
+use mathlib.Core.Bool.{false}
+use Rattle.life.specs.Number.{bars}
+use Rattle.life.proofs.create.next_number.Goals as goal
+
+pub returns : goal.returns
+returns c =
+    c.next_clear.ensures (bars c.args.b.now) (c.gather.ensures.adds (λ _. false) c.empty-s.ensures)

@@ -1,0 +1,25 @@
+-- `interrupt` meets its contract: nothing is pending, or the first in the queue of the first pending index is served.
+use borrow.Author.Rules.{rules}
+use native.Mathlib.Omega.{arith}
+use Rattle.life.specs.Device.{interrupt_none, pending_low, interrupt_served}
+use Rattle.life.proofs.device.interrupt.Goals as goal
+
+pub returns-then-i : goal.returns-then-i
+returns-then-i c =
+    interrupt_none c.requires c.args.s c.args.status (omega (arith, c.ranges), omega (arith, c.well_formed), omega (arith, c.well_formed))
+    c.first-i.ensures c.if-i.true c.answer.ensures
+
+pub overflow_add-i : goal.overflow_add-i
+overflow_add-i c =
+    let h = pending_low c.args.s c.first-i.ensures c.if-i.false in
+    omega arith
+
+pub ring-requires : goal.ring-requires
+ring-requires c =
+    let h = pending_low c.args.s c.first-i.ensures c.if-i.false in
+    (c.requires.whole, omega arith, omega arith)
+
+pub returns : goal.returns
+returns c =
+    interrupt_served c.requires c.args.s c.args.status (omega (arith, c.ranges), omega (arith, c.well_formed), omega (arith, c.well_formed))
+    c.first-i.ensures c.if-i.false c.ring.ensures c.answer-2.ensures

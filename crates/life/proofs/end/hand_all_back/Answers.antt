@@ -1,0 +1,24 @@
+-- `hand_all_back` meets its contract: what is left of the inbox is left to do.
+use lib.ListN.{length}
+use borrow.Author.Tests.{not-true, not-false}
+use Rattle.lines.specs.Lines.{line_of}
+use Rattle.rules.specs.Model.{places}
+use Rattle.life.specs.Drain.{Draining, drain_start, drain_again, drain_less, drain_end}
+use Rattle.life.specs.HandBack.{backs}
+use Rattle.life.proofs.end.hand_all_back.Goals as goal
+
+pub loop-n-init : goal.loop-n-init
+loop-n-init c = drain_start c.requires.0
+
+pub hand_back-requires : goal.hand_back-requires
+hand_back-requires c = (c.loop-n.invariant.whole, c.requires.1, c.requires.2)
+
+pub returns-then-not-hand_back : goal.returns-then-not-hand_back
+returns-then-not-hand_back c =
+    drain_end c.loop-n.invariant c.hand_back.ensures c.requires.2 c.if-not-hand_back.true
+
+pub loop-n-smaller : goal.loop-n-smaller
+loop-n-smaller c = drain_less c.loop-n.invariant c.hand_back.ensures c.if-not-hand_back.false
+
+pub loop-n-preserved : goal.loop-n-preserved
+loop-n-preserved c = drain_again c.loop-n.invariant c.hand_back.ensures c.if-not-hand_back.false

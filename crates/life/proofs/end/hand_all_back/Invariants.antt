@@ -1,0 +1,14 @@
+-- `hand_all_back` meets its contract: what is left of the inbox is left to do.
+use lib.ListN.{length}
+use borrow.Author.Tests.{not-true, not-false}
+use Rattle.lines.specs.Lines.{line_of}
+use Rattle.rules.specs.Model.{places}
+use Rattle.life.specs.Drain.{Draining, drain_start, drain_again, drain_less, drain_end}
+use Rattle.life.specs.HandBack.{backs}
+use Rattle.life.proofs.end.hand_all_back.Given as goal
+
+abbrev pub invariant-loop-n : goal.invariant-loop-n
+invariant-loop-n l = Draining (backs l.n.0) l.q l.initial.b l.initial.w l.initial.l l.b l.w l.l
+
+abbrev pub decreases-loop-n : goal.decreases-loop-n
+decreases-loop-n l = length (line_of places l.l l.q)

@@ -1,0 +1,23 @@
+-- `State::empty_place` meets its contract: the lowest zero of the filled set.
+use borrow.Author.Rules.{rules}
+use borrow.Author.Tests.{not-true, not-false}
+use mathlib.Core.Path.{refl}
+use Rattle.table.specs.Cells.{stands_at}
+use Rattle.nucleus.specs.View.{held, refused, desk_of}
+use Rattle.nucleus.specs.Looks.{lowest_some, lowest_full}
+use Rattle.nucleus.proofs.State.empty_place.Goals as goal
+
+pub returns-then-not-consistent : goal.returns-then-not-consistent
+returns-then-not-consistent c = refused (c.consistent.ensures.no c.if-not-consistent.true) refl
+
+pub returns-then-p-ge-PLACES : goal.returns-then-p-ge-PLACES
+returns-then-p-ge-PLACES c =
+    let a = c.args.self in
+    let k = c.consistent.ensures.yes c.if-not-consistent.false in
+    held k (lowest_full (desk_of a) a.blocks a.words a.lines (c.lowest-p.ensures (stands_at a.blocks) k.filled) c.if-p-ge-PLACES.true)
+
+pub returns : goal.returns
+returns c =
+    let a = c.args.self in
+    let k = c.consistent.ensures.yes c.if-not-consistent.false in
+    held k (lowest_some (desk_of a) a.blocks a.words a.lines (c.lowest-p.ensures (stands_at a.blocks) k.filled) c.if-p-ge-PLACES.false)

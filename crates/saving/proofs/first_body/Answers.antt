@@ -1,0 +1,39 @@
+-- `first_body` meets its contract. The loop's invariant: what was counted and who waits in the queues that are left is the whole.
+use borrow.Author.Rules.{rules}
+use Prim.Native.Nat.{◌≤◌, ◌<◌, ◌+◌, ◌*◌, ◌-◌}
+use mathlib.Core.Path.{◌≡◌}
+use native.Mathlib.Omega.{arith}
+use lib.ListN.{length}
+use Rattle.lists.specs.Sizes.{places, line_count}
+use Rattle.lines.specs.Lines.{line_of}
+use Rattle.lines.specs.Passes.{line_short}
+use Rattle.saving.specs.Format.{joined}
+use Rattle.saving.specs.Queues.{queues_from, waiting_start, waiting_step, waiting_end}
+use Rattle.saving.specs.Written.{waiting_in}
+use Rattle.saving.proofs.first_body.Goals as goal
+
+pub loop-q-init : goal.loop-q-init
+loop-q-init c =
+    let z = waiting_start (line_of places c.args.l.now) c.args.row in
+    (omega arith, omega arith, omega arith)
+
+pub overflow_add-n-in-loop-q : goal.overflow_add-n-in-loop-q
+overflow_add-n-in-loop-q c =
+    let f = c.requires in
+    let h : c.loop-q.q < line_count = omega arith in
+    let s = line_short f.0 (omega arith) h in
+    let i = c.loop-q.invariant.1 in
+    omega arith
+
+pub loop-q-preserved : goal.loop-q-preserved
+loop-q-preserved c =
+    let f = c.requires in
+    let z = waiting_step (line_of places c.args.l.now) c.args.row c.loop-q.q c.loop-q-test.true in
+    let h : c.loop-q.q < line_count = omega arith in
+    let s = line_short f.0 (omega arith) h in
+    (omega arith, omega arith, omega arith)
+
+pub returns : goal.returns
+returns c =
+    let z = waiting_end (line_of places c.args.l.now) c.args.row c.loop-q.q c.loop-q-test.false in
+    omega arith

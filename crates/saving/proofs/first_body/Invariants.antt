@@ -1,0 +1,19 @@
+-- `first_body` meets its contract. The loop's invariant: what was counted and who waits in the queues that are left is the whole.
+use borrow.Author.Rules.{rules}
+use Prim.Native.Nat.{◌≤◌, ◌<◌, ◌+◌, ◌*◌, ◌-◌}
+use mathlib.Core.Path.{◌≡◌}
+use native.Mathlib.Omega.{arith}
+use lib.ListN.{length}
+use Rattle.lists.specs.Sizes.{places, line_count}
+use Rattle.lines.specs.Lines.{line_of}
+use Rattle.lines.specs.Passes.{line_short}
+use Rattle.saving.specs.Format.{joined}
+use Rattle.saving.specs.Queues.{queues_from, waiting_start, waiting_step, waiting_end}
+use Rattle.saving.specs.Written.{waiting_in}
+use Rattle.saving.proofs.first_body.Given as goal
+
+abbrev pub invariant-loop-q : goal.invariant-loop-q
+invariant-loop-q l = (l.initial.n + length (waiting_in l.row l.l) ≡ l.n + length (joined (line_of places l.l) (queues_from l.row l.q))) × (l.n ≤ l.initial.n + places * l.q) × (l.q ≤ l.row.queues)
+
+abbrev pub decreases-loop-q : goal.decreases-loop-q
+decreases-loop-q l = l.row.queues - l.q

@@ -1,0 +1,30 @@
+-- `keep` meets its contract: 7 for a buffer that is too short, else the image in front.
+use native.Mathlib.Omega.{arith}
+use Rattle.saving.specs.Saving.{save_stands, save_few, image_fits, image_size, save_7, save_room, save_0}
+use borrow.Author.Rules.{rules}
+use Rattle.saving.proofs.keep.Goals as goal
+
+pub write-n-requires : goal.write-n-requires
+write-n-requires c =
+    (save_few c.newest.ensures, save_stands c.requires c.desk-d.ensures, omega arith)
+
+pub returns-then-buffer-n : goal.returns-then-buffer-n
+returns-then-buffer-n c =
+    save_7 c.requires c.desk-d.ensures c.newest.ensures c.write-n.ensures c.args.buffer.now c.if-buffer-n.true
+
+pub slice_bounds-image-end : goal.slice_bounds-image-end
+slice_bounds-image-end c =
+    image_fits c.requires c.desk-d.ensures c.newest.ensures c.write-n.ensures
+
+pub slice_bounds-put-end : goal.slice_bounds-put-end
+slice_bounds-put-end c =
+    image_size c.requires c.desk-d.ensures c.newest.ensures c.write-n.ensures
+
+pub put-requires : goal.put-requires
+put-requires c =
+    save_room c.requires c.desk-d.ensures c.newest.ensures c.write-n.ensures c.args.buffer.now c.if-buffer-n.false
+
+pub returns : goal.returns
+returns c =
+    save_0 c.requires c.desk-d.ensures c.newest.ensures c.write-n.ensures c.args.buffer.now c.if-buffer-n.false
+    c.put.ensures

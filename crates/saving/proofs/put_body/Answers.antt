@@ -1,0 +1,26 @@
+-- `put_body` meets its contract: nothing for an empty place; else the thread, and behind it the inbox.
+use borrow.Author.Rules.{rules}
+use Rattle.saving.specs.Entries.{body_none, thread_room, inbox_room, body_whole}
+use Rattle.saving.proofs.put_body.Goals as goal
+
+pub returns-then-t-eq-EMPTY : goal.returns-then-t-eq-EMPTY
+returns-then-t-eq-EMPTY c =
+    let a = c.args in
+    body_none a.row a.b.now a.w.now a.l.now a.p.0 c.requires.1 c.read-t.ensures c.if-t-eq-EMPTY.true a.out.now a.at
+
+pub put_thread-next-requires : goal.put_thread-next-requires
+put_thread-next-requires c =
+    let a = c.args in
+    thread_room a.row a.b.now a.w.now a.l.now a.p.0 c.requires.1 c.read-t.ensures c.if-t-eq-EMPTY.false a.out.now a.at
+    c.requires.2
+
+pub put_inbox-requires : goal.put_inbox-requires
+put_inbox-requires c =
+    let a = c.args in
+    (search rules, search rules, inbox_room a.row a.b.now a.w.now a.l.now a.p.0 c.requires.1 c.read-t.ensures c.if-t-eq-EMPTY.false a.out.now a.at c.requires.2 c.put_thread-next.ensures)
+
+pub returns : goal.returns
+returns c =
+    let a = c.args in
+    body_whole a.row a.b.now a.w.now a.l.now a.p.0 c.requires.1 c.read-t.ensures c.if-t-eq-EMPTY.false a.out.now a.at
+    c.requires.2 c.put_thread-next.ensures c.put_inbox.ensures

@@ -1,0 +1,28 @@
+-- `put_queues` meets its contract. The loop's invariant: the places of the queues that are left are left to write.
+use borrow.Author.Rules.{rules}
+use Prim.Native.Nat.{◌≤◌, ◌-◌}
+use mathlib.Core.Path.{refl}
+use Rattle.lists.specs.Sizes.{places}
+use Rattle.lines.specs.Lines.{line_of}
+use Rattle.saving.specs.Format.{joined}
+use Rattle.saving.specs.Queues.{Queueing, queueing_start, queueing_room, queueing_more, queueing_length, queueing_end}
+use Rattle.saving.proofs.put_queues.Goals as goal
+
+pub loop-q-init : goal.loop-q-init
+loop-q-init c =
+    let a = c.args in
+    (queueing_start (joined (line_of places a.l.now)) a.row a.out.now a.at c.requires.2, search rules)
+
+pub put_line-next-requires : goal.put_line-next-requires
+put_line-next-requires c =
+    (c.requires.0, search rules, queueing_room c.loop-q.invariant.0 c.loop-q-test.true (line_of places c.args.l.now c.loop-q.q) (λ qs. refl))
+
+pub loop-q-preserved : goal.loop-q-preserved
+loop-q-preserved c =
+    (queueing_more c.loop-q.invariant.0 c.loop-q-test.true (line_of places c.args.l.now c.loop-q.q) (λ qs. refl) c.put_line-next.ensures, search rules)
+
+pub shape_of-out : goal.shape_of-out
+shape_of-out c = queueing_length c.loop-q.invariant.0 c.requires.2
+
+pub returns : goal.returns
+returns c = queueing_end c.loop-q.invariant.0 refl c.loop-q-test.false

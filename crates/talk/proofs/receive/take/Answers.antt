@@ -1,0 +1,21 @@
+-- `take` meets its contract: a leave and two stores are the rule's.
+use borrow.Author.Rules.{rules}
+use native.Mathlib.Omega.{arith}
+use Rattle.verbs.specs.Steps.{stood, heard, left}
+use Rattle.talk.specs.Receive.{took}
+use Rattle.talk.proofs.receive.take.Goals as goal
+
+pub overflow_add-c : goal.overflow_add-c
+overflow_add-c c = omega (arith, c.requires.1)
+
+pub leave-requires : goal.leave-requires
+leave-requires c =
+    (c.requires.0.lines, omega (arith, c.requires.1), c.requires.2)
+
+pub returns : goal.returns
+returns c =
+    let h = c.requires.1 in
+    let r = left c.requires.0 (omega arith) c.args.p.0 c.leave.ensures in
+    let s = stood r.whole c.requires.2 c.stand.ensures in
+    took c.requires.0 c.requires.2 c.partner_of-partner.ensures c.number_of-who.ensures c.word_of-word.ensures r s
+    (heard s.whole h c.tell.ensures)
