@@ -2,38 +2,52 @@
 use super::{kept, line, replayed, thread, two};
 use nucleus::State;
 use rules::{Device, Pending, Place};
+use std::io;
 
 // The half of terminal 0 that receives.
 pub const KEYPAD: u8 = 33;
 
-pub fn all() {
-    woken();
-    first_come();
-    first_index();
-    refused();
-    logs();
+pub fn all(rt: &impl Print) -> io::Result<()> {
+    woken(rt)?;
+    first_come(rt)?;
+    first_index(rt)?;
+    refused(rt)?;
+    logs(rt)
 }
 
 // 0 alone waits at device 33. A set whose first index has no waiter changes nothing, though 33 is in it too, and an empty set changes nothing.
-fn woken() {
-    let s = alone();
+fn woken(rt: &impl Print) -> io::Result<()> {
+    let s = alone(rt)?;
     let s = line(
+        rt,
         b"0 waits at device 33",
         s.wait_device(Device(KEYPAD)),
         Place(0),
-    );
-    kept(s);
+    )?;
+    kept(rt, s)?;
     line(
+        rt,
         b"32 and 33 interrupt with 5",
         s.interrupt(high(3), 5),
         Place(0),
-    );
-    line(b"none interrupts with 5", s.interrupt(high(0), 5), Place(0));
-    line(b"33 interrupts with 5", s.interrupt(keypad(), 5), Place(0));
+    )?;
+    line(
+        rt,
+        b"none interrupts with 5",
+        s.interrupt(high(0), 5),
+        Place(0),
+    )?;
+    line(
+        rt,
+        b"33 interrupts with 5",
+        s.interrupt(keypad(), 5),
+        Place(0),
+    )?;
+    Ok(())
 }
 
-fn alone() -> State {
-    line(b"0 alone", State::fresh().create(), Place(0))
+fn alone(rt: &impl Print) -> io::Result<State> {
+    line(rt, b"0 alone", State::fresh().create(), Place(0))
 }
 
 // The set of the keypad alone, which is the second index of the high half.
@@ -47,57 +61,88 @@ fn high(high: u16) -> Pending {
 }
 
 // Two wait at one device: each interrupt serves the one who came first.
-fn first_come() {
-    let s = two();
+fn first_come(rt: &impl Print) -> io::Result<()> {
+    let s = two(rt)?;
     let s = line(
+        rt,
         b"0 waits at device 33",
         s.wait_device(Device(KEYPAD)),
         Place(0),
-    );
+    )?;
     let s = line(
+        rt,
         b"1 waits at device 33",
         s.wait_device(Device(KEYPAD)),
         Place(1),
-    );
-    let s = line(b"33 interrupts with 5", s.interrupt(keypad(), 5), Place(0));
-    thread(s, Place(1));
-    let s = line(b"33 interrupts with 6", s.interrupt(keypad(), 6), Place(0));
-    thread(s, Place(1));
+    )?;
+    let s = line(
+        rt,
+        b"33 interrupts with 5",
+        s.interrupt(keypad(), 5),
+        Place(0),
+    )?;
+    thread(rt, s, Place(1))?;
+    let s = line(
+        rt,
+        b"33 interrupts with 6",
+        s.interrupt(keypad(), 6),
+        Place(0),
+    )?;
+    thread(rt, s, Place(1))
 }
 
 // Two wait at two devices: the lower index is served, though the other came first.
-fn first_index() {
-    let s = two();
+fn first_index(rt: &impl Print) -> io::Result<()> {
+    let s = two(rt)?;
     let s = line(
+        rt,
         b"0 waits at device 33",
         s.wait_device(Device(KEYPAD)),
         Place(0),
-    );
+    )?;
     let s = line(
+        rt,
         b"1 waits at device 1, its own number",
         s.wait_device(Device(1)),
         Place(1),
-    );
+    )?;
     let both = Pending { low: 2, high: 2 };
-    let s = line(b"1 and 33 interrupt with 5", s.interrupt(both, 5), Place(0));
-    thread(s, Place(1));
+    let s = line(
+        rt,
+        b"1 and 33 interrupt with 5",
+        s.interrupt(both, 5),
+        Place(0),
+    )?;
+    thread(rt, s, Place(1))
 }
 
 // There is no device 48; but that nobody runs who could wait comes first.
-fn refused() {
-    let s = alone();
-    line(b"0 waits at device 48", s.wait_device(Device(48)), Place(0));
-    let s = line(b"0 waits at device 47", s.wait_device(Device(47)), Place(0));
+fn refused(rt: &impl Print) -> io::Result<()> {
+    let s = alone(rt)?;
     line(
+        rt,
+        b"0 waits at device 48",
+        s.wait_device(Device(48)),
+        Place(0),
+    )?;
+    let s = line(
+        rt,
+        b"0 waits at device 47",
+        s.wait_device(Device(47)),
+        Place(0),
+    )?;
+    line(
+        rt,
         b"nobody waits at device 48",
         s.wait_device(Device(48)),
         Place(0),
-    );
+    )?;
+    Ok(())
 }
 
 // A create, the wait and the interrupt; and the same cut inside the interrupt's record.
-fn logs() {
+fn logs(rt: &impl Print) -> io::Result<()> {
     let log = [1u8, 9, KEYPAD, 10, 0, 0, 0, 0, 2, 0, 5, 0, 0, 0];
-    replayed(b"log 01 09 21 0a 00 00 00 00 02 00 05 00 00 00", &log);
-    replayed(b"cut to 13 bytes", &log[..13]);
+    replayed(rt, b"log 01 09 21 0a 00 00 00 00 02 00 05 00 00 00", &log)?;
+    replayed(rt, b"cut to 13 bytes", &log[..13])
 }

@@ -4,6 +4,7 @@
 
 use nucleus::{Reply, State};
 use rules::{Number, Place};
+use std::io;
 
 mod devices;
 mod families;
@@ -18,141 +19,153 @@ const ANY: u8 = rules::NOBODY;
 
 const LAST_PLACE: u8 = lines::PLACES as u8 - 1;
 
-fn main() {
-    fresh();
-    pair();
-    ended();
-    refused();
-    wrapped();
-    passed_over();
-    waits();
-    sticks();
-    fills();
-    images::all();
-    logs();
-    devices::all();
-    listeners::all();
-    updates::all();
-    families::all();
-    places::all();
-    sheets::all();
-    mangled::all();
+fn main(rt: HostRuntime) -> io::Result<()> {
+    fresh(&rt)?;
+    pair(&rt)?;
+    ended(&rt)?;
+    refused(&rt)?;
+    wrapped(&rt)?;
+    passed_over(&rt)?;
+    waits(&rt)?;
+    sticks(&rt)?;
+    fills(&rt)?;
+    images::all(&rt)?;
+    logs(&rt)?;
+    devices::all(&rt)?;
+    listeners::all(&rt)?;
+    updates::all(&rt)?;
+    families::all(&rt)?;
+    places::all(&rt)?;
+    sheets::all(&rt)?;
+    mangled::all(&rt)
 }
 
 // What an event answered, and the thread at p then.
-fn line(what: &[u8], r: Reply, p: Place) -> State {
-    console::text(what);
-    console::text(b": ");
+fn line(rt: &impl Print, what: &[u8], r: Reply, p: Place) -> io::Result<State> {
+    console::text(rt, what)?;
+    console::text(rt, b": ")?;
     let choice = r.choice;
     let number = r.number;
-    console::answer(r.code, choice, number);
+    console::answer(rt, r.code, choice, number)?;
     let s = r.state;
-    thread(s, p);
-    s
+    thread(rt, s, p)?;
+    Ok(s)
 }
 
 // The thread at p: its number, standing, and answer.
-fn thread(s: State, p: Place) {
+fn thread(rt: &impl Print, s: State, p: Place) -> io::Result<()> {
     let t = s.thread(p);
     let a = t.answer;
-    console::text(b"    place ");
-    console::say(p.0 as u64, b": thread ");
-    console::say(t.number.0 as u64, b" stands ");
-    console::say(t.standing as u64, b", answer ");
-    console::say(a.code as u64, b" ");
-    console::say(a.who.0 as u64, b" ");
-    console::say(a.word as u64, b"\n");
+    console::text(rt, b"    place ")?;
+    console::say(rt, p.0 as u64, b": thread ")?;
+    console::say(rt, t.number.0 as u64, b" stands ")?;
+    console::say(rt, t.standing as u64, b", answer ")?;
+    console::say(rt, a.code as u64, b" ")?;
+    console::say(rt, a.who.0 as u64, b" ")?;
+    console::say(rt, a.word as u64, b"\n")
 }
 
-fn fresh() {
-    console::text(b"fresh: ");
+fn fresh(rt: &impl Print) -> io::Result<()> {
+    console::text(rt, b"fresh: ")?;
     let s = State::fresh();
-    console::choice(s.choice());
-    console::text(b"\n");
-    kept(s);
+    console::choice(rt, s.choice())?;
+    console::text(rt, b"\n")?;
+    kept(rt, s)
 }
 
 // The image, as it would be kept. It is of edition 4.
-fn kept(s: State) {
+fn kept(rt: &impl Print, s: State) -> io::Result<()> {
     let mut buffer = [0u8; image::LONGEST];
     let r = image::save(s, &mut buffer);
-    console::text(b"    saved in ");
-    console::say(r.length as u64, b" bytes: ");
-    console::image_of(s);
-    console::text(b"\n");
+    console::text(rt, b"    saved in ")?;
+    console::say(rt, r.length as u64, b" bytes: ")?;
+    console::image_of(rt, s)?;
+    console::text(rt, b"\n")
 }
 
 // Create twice.
-fn two() -> State {
-    let s = line(b"create", State::fresh().create(), Place(0));
-    let s = line(b"create again", s.create(), Place(1));
-    kept(s);
-    s
+fn two(rt: &impl Print) -> io::Result<State> {
+    let s = line(rt, b"create", State::fresh().create(), Place(0))?;
+    let s = line(rt, b"create again", s.create(), Place(1))?;
+    kept(rt, s)?;
+    Ok(s)
 }
 
 // The pair meets: 0 receives, 1 sends, 0 replies.
-fn pair() {
-    let s = two();
-    let s = line(b"0 receives any", s.receive(Number(ANY)), Place(1));
-    let s = line(b"1 sends 7 to 0", s.send(Number(0), 7), Place(0));
-    let s = line(b"0 replies 9", s.reply(Number(1), 9), Place(1));
-    thread(s, Place(0));
+fn pair(rt: &impl Print) -> io::Result<()> {
+    let s = two(rt)?;
+    let s = line(rt, b"0 receives any", s.receive(Number(ANY)), Place(1))?;
+    let s = line(rt, b"1 sends 7 to 0", s.send(Number(0), 7), Place(0))?;
+    let s = line(rt, b"0 replies 9", s.reply(Number(1), 9), Place(1))?;
+    thread(rt, s, Place(0))
 }
 
 // A receiver ends: its sender has its own word back, and the number is not given again at once.
-fn ended() {
-    let s = two();
-    let s = line(b"0 sends 7 to 1", s.send(Number(1), 7), Place(0));
-    let s = line(b"1 is ended", s.end(Number(1)), Place(0));
-    line(b"the next create", s.create(), Place(1));
+fn ended(rt: &impl Print) -> io::Result<()> {
+    let s = two(rt)?;
+    let s = line(rt, b"0 sends 7 to 1", s.send(Number(1), 7), Place(0))?;
+    let s = line(rt, b"1 is ended", s.end(Number(1)), Place(0))?;
+    line(rt, b"the next create", s.create(), Place(1))?;
+    Ok(())
 }
 
-fn refused() {
-    let s = line(b"0 alone", State::fresh().create(), Place(0));
-    line(b"0 sends to 254", s.send(Number(254), 7), Place(0));
-    line(b"0 sends to 0", s.send(Number(0), 7), Place(0));
-    line(b"0 sends to 5", s.send(Number(5), 7), Place(0));
+fn refused(rt: &impl Print) -> io::Result<()> {
+    let s = line(rt, b"0 alone", State::fresh().create(), Place(0))?;
+    line(rt, b"0 sends to 254", s.send(Number(254), 7), Place(0))?;
+    line(rt, b"0 sends to 0", s.send(Number(0), 7), Place(0))?;
+    line(rt, b"0 sends to 5", s.send(Number(5), 7), Place(0))?;
+    Ok(())
 }
 
-fn wrapped() {
+fn wrapped(rt: &impl Print) -> io::Result<()> {
     let r = State::fresh().create();
     let mut s = r.state;
     let last = Number(rules::LAST_NUMBER);
     s.last = last;
-    line(b"last given 253, only 0 live: create", s.create(), Place(1));
+    line(
+        rt,
+        b"last given 253, only 0 live: create",
+        s.create(),
+        Place(1),
+    )?;
+    Ok(())
 }
 
 // Document 02's P3: 0 has the answer 16, 1, 7, so 1 is passed over until 0 has another. To send to it is refused all the same, since it is not live.
-fn passed_over() {
+fn passed_over(rt: &impl Print) -> io::Result<()> {
     let log = b"\x01\x01\x02\x01\x07\0\0\0\x05\x01";
     let mut s = after(log);
     let last = Number(rules::LAST_NUMBER);
     s.last = last;
     line(
+        rt,
         b"last given 253, only 0 live, its answer's who 1: create",
         s.create(),
         Place(1),
-    );
-    line(b"0 sends to 1", s.send(Number(1), 7), Place(0));
-    let s = line(b"0 waits for the clock", s.wait_clock(), Place(0));
-    let s = line(b"tick", s.tick(), Place(0));
-    line(b"create", s.create(), Place(1));
+    )?;
+    line(rt, b"0 sends to 1", s.send(Number(1), 7), Place(0))?;
+    let s = line(rt, b"0 waits for the clock", s.wait_clock(), Place(0))?;
+    let s = line(rt, b"tick", s.tick(), Place(0))?;
+    line(rt, b"create", s.create(), Place(1))?;
+    Ok(())
 }
 
-fn waits() {
-    let s = line(b"0 alone", State::fresh().create(), Place(0));
-    let s = line(b"0 waits for the clock", s.wait_clock(), Place(0));
-    line(b"tick", s.tick(), Place(0));
+fn waits(rt: &impl Print) -> io::Result<()> {
+    let s = line(rt, b"0 alone", State::fresh().create(), Place(0))?;
+    let s = line(rt, b"0 waits for the clock", s.wait_clock(), Place(0))?;
+    line(rt, b"tick", s.tick(), Place(0))?;
+    Ok(())
 }
 
-fn sticks() {
-    let s = line(b"0 alone", State::fresh().create(), Place(0));
-    let s = line(b"0 receives any", s.receive(Number(ANY)), Place(0));
-    line(b"tick", s.tick(), Place(0));
+fn sticks(rt: &impl Print) -> io::Result<()> {
+    let s = line(rt, b"0 alone", State::fresh().create(), Place(0))?;
+    let s = line(rt, b"0 receives any", s.receive(Number(ANY)), Place(0))?;
+    line(rt, b"tick", s.tick(), Place(0))?;
+    Ok(())
 }
 
 // 64 creates pass; the 65th does not.
-fn fills() {
+fn fills(rt: &impl Print) -> io::Result<()> {
     let mut s = State::fresh();
     let mut i = 0;
     while i < lines::PLACES {
@@ -161,33 +174,33 @@ fn fills() {
         s = after;
         i += 1;
     }
-    let s = line(b"create with 64 live", s.create(), Place(LAST_PLACE));
-    console::text(b"    live: ");
-    console::say(s.live() as u64, b"\n");
+    let s = line(rt, b"create with 64 live", s.create(), Place(LAST_PLACE))?;
+    console::text(rt, b"    live: ")?;
+    console::say(rt, s.live() as u64, b"\n")
 }
 
 // Two creates, a receive and a send; the same cut inside the send; a wait at a device, cut short; and a kind that is not known.
-fn logs() {
+fn logs(rt: &impl Print) -> io::Result<()> {
     let log = [1u8, 1, 3, 255, 2, 0, 7, 0, 0, 0];
-    replayed(b"log 01 01 03 ff 02 00 07 00 00 00", &log);
-    replayed(b"cut to 9 bytes", &log[..9]);
+    replayed(rt, b"log 01 01 03 ff 02 00 07 00 00 00", &log)?;
+    replayed(rt, b"cut to 9 bytes", &log[..9])?;
     let short = [9u8];
-    replayed(b"log 09", &short);
+    replayed(rt, b"log 09", &short)?;
     let unknown = [11u8];
-    replayed(b"log 0b", &unknown);
+    replayed(rt, b"log 0b", &unknown)
 }
 
 // What a log comes to, from fresh.
-fn replayed(what: &[u8], log: &[u8]) {
+fn replayed(rt: &impl Print, what: &[u8], log: &[u8]) -> io::Result<()> {
     let r = logging::replay(State::fresh(), log);
     let choice = r.choice;
-    console::text(what);
-    console::text(b": ");
-    console::say(r.code as u64, b", records ");
-    console::say(r.records as u64, b", bytes ");
-    console::say(r.bytes as u64, b", ");
-    console::choice(choice);
-    console::text(b"\n");
+    console::text(rt, what)?;
+    console::text(rt, b": ")?;
+    console::say(rt, r.code as u64, b", records ")?;
+    console::say(rt, r.records as u64, b", bytes ")?;
+    console::say(rt, r.bytes as u64, b", ")?;
+    console::choice(rt, choice)?;
+    console::text(rt, b"\n")
 }
 
 // The state that a log leaves, from fresh.

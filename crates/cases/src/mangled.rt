@@ -7,6 +7,7 @@ use lines::Links;
 use logging::Recorded;
 use nucleus::{Reply, State};
 use rules::{Choice, Device, Event, Number, Place};
+use std::io;
 use table::{Blocks, Thread, Words};
 
 // A byte of a buffer before it is lent: neither an image nor a log is made of these.
@@ -24,13 +25,13 @@ const LAST: usize = lines::PLACES + lines::LINES;
 // The line of the device at which somebody waits.
 const KEYPAD_LINE: usize = (table::DEVICE_LINES + KEYPAD) as usize;
 
-pub fn all() {
+pub fn all(rt: &impl Print) -> io::Result<()> {
     let s = cab();
-    tried(b"nothing mangled", s);
-    threads(s);
-    queues(s);
-    devices(s);
-    desks(s);
+    tried(rt, b"nothing mangled", s)?;
+    threads(rt, s)?;
+    queues(rt, s)?;
+    devices(rt, s)?;
+    desks(rt, s)
 }
 
 // Six threads, each at the place of its number, 0 the parent of the others: 0 sends 7 to 1, 1 waits for the clock, 2 runs, 3 is ready, 4 waits at the keypad,
@@ -45,71 +46,90 @@ fn cab() -> State {
 
 // ---- the states
 
-fn threads(s: State) {
-    tried(b"two threads, one number", byte(s, table::NUMBER + 3, 2));
-    tried(b"a partner that does not live", byte(s, table::PARTNER, 9));
+fn threads(rt: &impl Print, s: State) -> io::Result<()> {
     tried(
+        rt,
+        b"two threads, one number",
+        byte(s, table::NUMBER + 3, 2),
+    )?;
+    tried(
+        rt,
+        b"a partner that does not live",
+        byte(s, table::PARTNER, 9),
+    )?;
+    tried(
+        rt,
         b"a receiver that names a dead thread",
         byte(s, table::PARTNER + 5, 9),
-    );
-    tried(b"an answer of code 17", byte(s, table::CODE + 2, 17));
+    )?;
+    tried(rt, b"an answer of code 17", byte(s, table::CODE + 2, 17))?;
     tried(
+        rt,
         b"an answer of code 16 from nobody",
         byte(s, table::CODE + 2, 16),
-    );
-    tried(b"a word in a ready thread", word(s, table::WORD + 3, 1));
+    )?;
+    tried(rt, b"a word in a ready thread", word(s, table::WORD + 3, 1))?;
     tried(
+        rt,
         b"a parent that does not live",
         byte(s, table::PARENT + 3, 9),
-    );
+    )?;
     tried(
+        rt,
         b"a thread that is its own parent",
         byte(s, table::PARENT + 3, 3),
-    );
+    )?;
     tried(
+        rt,
         b"two that are each other's parents",
         byte(s, table::PARENT, 3),
-    );
+    )
 }
 
-fn queues(s: State) {
-    tried(b"a line that is a ring", link(s, 3, 3));
+fn queues(rt: &impl Print, s: State) -> io::Result<()> {
+    tried(rt, b"a line that is a ring", link(s, 3, 3))?;
     // 3, the only one in ready, stands behind 1 in the clock line too, as its last.
     let t = link(s, 1, 3);
     tried(
+        rt,
         b"a place in two lines",
         link(t, LAST + table::CLOCK_LINE as usize, 3),
-    );
+    )
 }
 
-fn devices(s: State) {
+fn devices(rt: &impl Print, s: State) -> io::Result<()> {
     tried(
+        rt,
         b"a waiter at a device that is none",
         byte(s, table::PARTNER + 4, lines::DEVICES as u8),
-    );
+    )?;
     tried(
+        rt,
         b"a waiter in another device's line",
         byte(s, table::PARTNER + 4, KEYPAD + 1),
-    );
+    )?;
     tried(
+        rt,
         b"a word in a waiter at a device",
         word(s, table::WORD + 4, 1),
-    );
+    )?;
     let t = link(s, lines::PLACES + KEYPAD_LINE, lines::NONE);
     tried(
+        rt,
         b"a waiter in no line",
         link(t, LAST + KEYPAD_LINE, lines::NONE),
-    );
+    )
 }
 
-fn desks(s: State) {
-    tried(b"another runs than stands so", running(s, Place(3)));
+fn desks(rt: &impl Print, s: State) -> io::Result<()> {
+    tried(rt, b"another runs than stands so", running(s, Place(3)))?;
     tried(
+        rt,
         b"the running place is no place",
         running(s, Place(lines::PLACES as u8)),
-    );
-    tried(b"an empty place in the filled set", one_more(s));
-    tried(b"the last number is 254", no_number(s));
+    )?;
+    tried(rt, b"an empty place in the filled set", one_more(s))?;
+    tried(rt, b"the last number is 254", no_number(s))
 }
 
 // The state with one byte, word or link changed.
@@ -152,126 +172,127 @@ fn no_number(mut s: State) -> State {
 
 // ---- the operations
 
-fn tried(what: &[u8], s: State) {
-    console::text(what);
-    looked(s);
-    acted(s);
+fn tried(rt: &impl Print, what: &[u8], s: State) -> io::Result<()> {
+    console::text(rt, what)?;
+    looked(rt, s)?;
+    acted(rt, s)
 }
 
 // What the operations that only look give.
-fn looked(s: State) {
-    console::text(b": consistent ");
-    console::say(s.consistent() as u64, b", ");
-    console::choice(s.choice());
-    console::text(b", live ");
-    console::say(s.live() as u64, b", empty place ");
+fn looked(rt: &impl Print, s: State) -> io::Result<()> {
+    console::text(rt, b": consistent ")?;
+    console::say(rt, s.consistent() as u64, b", ")?;
+    console::choice(rt, s.choice())?;
+    console::text(rt, b", live ")?;
+    console::say(rt, s.live() as u64, b", empty place ")?;
     let p = s.empty_place();
-    console::say(p.0 as u64, b", thread");
-    fields(s.thread(Place(0)));
-    console::text(b"\n");
+    console::say(rt, p.0 as u64, b", thread")?;
+    fields(rt, s.thread(Place(0)))?;
+    console::text(rt, b"\n")
 }
 
 // A thread's fields, in the order of the image.
-fn fields(t: Thread) {
+fn fields(rt: &impl Print, t: Thread) -> io::Result<()> {
     let a = t.answer;
-    field(t.number.0 as u64);
-    field(t.standing as u64);
-    field(t.partner.0 as u64);
-    field(t.word as u64);
-    field(a.code as u64);
-    field(a.who.0 as u64);
-    field(a.word as u64);
-    field(t.parent.0 as u64);
+    field(rt, t.number.0 as u64)?;
+    field(rt, t.standing as u64)?;
+    field(rt, t.partner.0 as u64)?;
+    field(rt, t.word as u64)?;
+    field(rt, a.code as u64)?;
+    field(rt, a.who.0 as u64)?;
+    field(rt, a.word as u64)?;
+    field(rt, t.parent.0 as u64)
 }
 
-fn field(x: u64) {
-    console::text(b" ");
-    console::number(x);
+fn field(rt: &impl Print, x: u64) -> io::Result<()> {
+    console::text(rt, b" ")?;
+    console::number(rt, x)
 }
 
 // What the operations that act give: the code of each, and whether all of them refused.
-fn acted(s: State) {
-    console::text(b"    events");
-    let e = events(s);
-    let k = saved(s);
-    let r = recorded(s);
-    let p = replayed(s);
+fn acted(rt: &impl Print, s: State) -> io::Result<()> {
+    console::text(rt, b"    events")?;
+    let e = events(rt, s)?;
+    let k = saved(rt, s)?;
+    let r = recorded(rt, s)?;
+    let p = replayed(rt, s)?;
     if e & k & r & p {
-        console::text(b": halt, nobody, none, all as it was\n");
+        console::text(rt, b": halt, nobody, none, all as it was\n")?;
     } else {
-        console::text(b": at ! another answer\n");
+        console::text(rt, b": at ! another answer\n")?;
     }
+    Ok(())
 }
 
 // Each of the ten events by its own method, and one by `step`.
-fn events(s: State) -> bool {
-    let a = event(s, s.create());
-    let b = event(s, s.send(Number(3), 7));
-    let c = event(s, s.receive(Number(rules::NOBODY)));
-    let d = event(s, s.reply(Number(0), 9));
-    let e = event(s, s.end(Number(1)));
-    let f = event(s, s.wait_clock());
-    let g = event(s, s.slice_end());
-    let h = event(s, s.tick());
-    let i = event(s, s.wait_device(Device(KEYPAD)));
-    let j = event(s, s.interrupt(keypad(), 5));
-    let k = event(s, s.step(Event::Tick));
-    a & b & c & d & e & f & g & h & i & j & k
+fn events(rt: &impl Print, s: State) -> io::Result<bool> {
+    let a = event(rt, s, s.create())?;
+    let b = event(rt, s, s.send(Number(3), 7))?;
+    let c = event(rt, s, s.receive(Number(rules::NOBODY)))?;
+    let d = event(rt, s, s.reply(Number(0), 9))?;
+    let e = event(rt, s, s.end(Number(1)))?;
+    let f = event(rt, s, s.wait_clock())?;
+    let g = event(rt, s, s.slice_end())?;
+    let h = event(rt, s, s.tick())?;
+    let i = event(rt, s, s.wait_device(Device(KEYPAD)))?;
+    let j = event(rt, s, s.interrupt(keypad(), 5))?;
+    let k = event(rt, s, s.step(Event::Tick))?;
+    Ok(a & b & c & d & e & f & g & h & i & j & k)
 }
 
-fn event(s: State, r: Reply) -> bool {
+fn event(rt: &impl Print, s: State, r: Reply) -> io::Result<bool> {
     let t = r.state;
     let choice = r.choice;
     let number = r.number;
     let none = halts(choice) & (number.0 == rules::NOBODY);
-    told(r.code, none & same(s, t))
+    told(rt, r.code, none & same(s, t))
 }
 
 // The buffer would hold any image.
-fn saved(s: State) -> bool {
+fn saved(rt: &impl Print, s: State) -> io::Result<bool> {
     let before = [BLANK; image::LONGEST];
     let mut buffer = before;
     let r = image::save(s, &mut buffer);
     let kept = check::same(&before, &buffer);
-    console::text(b", save");
-    told(r.code, (r.length == 0) & kept)
+    console::text(rt, b", save")?;
+    told(rt, r.code, (r.length == 0) & kept)
 }
 
-fn recorded(s: State) -> bool {
+fn recorded(rt: &impl Print, s: State) -> io::Result<bool> {
     let before = [BLANK; LOG];
     let mut log = before;
-    console::text(b", record");
+    console::text(rt, b", record")?;
     let r = logging::record(s, &mut log, START, Event::Tick);
-    unrecorded(s, r, check::same(&before, &log))
+    unrecorded(rt, s, r, check::same(&before, &log))
 }
 
-fn unrecorded(s: State, r: Recorded, kept: bool) -> bool {
+fn unrecorded(rt: &impl Print, s: State, r: Recorded, kept: bool) -> io::Result<bool> {
     let t = r.state;
     let choice = r.choice;
     let number = r.number;
     let none = halts(choice) & (number.0 == rules::NOBODY) & (r.position == START);
-    told(r.code, none & kept & same(s, t))
+    told(rt, r.code, none & kept & same(s, t))
 }
 
 // The log is that of a create and a tick.
-fn replayed(s: State) -> bool {
+fn replayed(rt: &impl Print, s: State) -> io::Result<bool> {
     let log = [1u8, 8];
     let r = logging::replay(s, &log);
     let t = r.state;
     let choice = r.choice;
     let none = halts(choice) & (r.records == 0) & (r.bytes == 0);
-    console::text(b", replay");
-    told(r.code, none & same(s, t))
+    console::text(rt, b", replay")?;
+    told(rt, r.code, none & same(s, t))
 }
 
 // The code of an operation, and whether it refused: with 14, and in all else as it is to. One that did not is marked.
-fn told(code: u8, quiet: bool) -> bool {
-    field(code as u64);
+fn told(rt: &impl Print, code: u8, quiet: bool) -> io::Result<bool> {
+    field(rt, code as u64)?;
     if quiet & (code == rules::codes::INCONSISTENT) {
-        return true;
+        return Ok(true);
     }
-    console::text(b"!");
-    false
+    console::text(rt, b"!")?;
+    Ok(false)
 }
 
 // ---- what is compared

@@ -65,7 +65,7 @@ pub fn at_device(wait: u64) -> bool {
 }
 
 // How many loads wait, how many drivers at the scale and at the keypad, and how many displays there are.
-#[derive(Drop)]
+#[derive(Clone, Copy)]
 pub struct Waiters {
     pub loads: u32,
     pub scale: u32,

@@ -3,7 +3,7 @@ use super::book;
 use nucleus::State;
 
 // Of those that waited before the power failed, how many stood at their place in their line again, with their word.
-#[derive(Drop)]
+#[derive(Clone, Copy)]
 pub struct Back {
     pub waited: u32,
     pub back: u32,
@@ -11,7 +11,7 @@ pub struct Back {
 
 // What was found over all cuts: how many there were, and how many inside a record; how many brought the state back, with the right counts; the loads, and
 // the drivers at a device; and the first cut that failed.
-#[derive(Drop)]
+#[derive(Clone, Copy)]
 pub struct Found {
     pub cuts: u32,
     pub halves: u32,

@@ -15,7 +15,7 @@ pub const BEFORE: usize = 200;
 
 // Drivers who were weighed, and who typed; loads sent, answered, and gone because their driver signed off while they waited; displays started, and gone with
 // the driver who started them; and events that were refused.
-#[derive(Drop)]
+#[derive(Clone, Copy)]
 pub struct Counts {
     pub weighed: u32,
     pub typed: u32,
@@ -28,7 +28,7 @@ pub struct Counts {
 }
 
 // The shift after an event: the state, the dice, the counts, and where the next record goes.
-#[derive(Drop)]
+#[derive(Clone, Copy)]
 pub struct Shift {
     pub state: State,
     pub dice: u32,

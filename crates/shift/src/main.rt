@@ -2,6 +2,8 @@
 // load, and each driver at the scale or the keypad, came back to its place.
 #![tactic(auto)]
 
+use std::io;
+
 mod book;
 mod crew;
 mod cuts;
@@ -12,7 +14,7 @@ mod report;
 // The log's buffer: a record has 11 bytes at most.
 const LOG: usize = 11 * book::EVENTS;
 
-fn main() {
+fn main(rt: HostRuntime) -> io::Result<()> {
     let mut image = [0u8; image::LONGEST];
     let mut log = [0u8; LOG];
     let mut marks = [0usize; book::MARKS];
@@ -24,10 +26,10 @@ fn main() {
     let length = saved.length;
     let evening = day::rest(morning, &mut log, &mut marks, &mut kept, &mut waits);
     let end = evening.position;
-    report::played(evening, length, end);
+    report::played(&rt, evening, length, end)?;
     let image = book::front(&image, length);
     let log = book::front(&log, end);
     let found = cuts::all(image, log, &marks, &kept, &waits);
-    report::failed(found, end);
-    report::half(image, log);
+    report::failed(&rt, found, end)?;
+    report::half(&rt, image, log)
 }

@@ -2,53 +2,56 @@
 // of each number; then the update's code, and the image of the state that it gives.
 use crate::fields;
 use rules::Number;
+use std::io;
 
-pub fn run(vector: &[u8]) {
+pub fn run(rt: &impl Print, vector: &[u8]) -> io::Result<()> {
     let image = fields::first(vector);
-    console::text(b"load ");
-    loaded(image);
-    looked(image, fields::second(vector));
-    updated(image);
+    console::text(rt, b"load ")?;
+    loaded(rt, image)?;
+    looked(rt, image, fields::second(vector))?;
+    updated(rt, image)
 }
 
-fn loaded(bytes: &[u8]) {
+fn loaded(rt: &impl Print, bytes: &[u8]) -> io::Result<()> {
     let r = image::load(bytes);
     let s = r.state;
-    console::say(r.code as u64, b" ");
-    console::image_of(s);
-    console::text(b" ");
-    console::choice(s.choice());
-    console::text(b" ");
+    console::say(rt, r.code as u64, b" ")?;
+    console::image_of(rt, s)?;
+    console::text(rt, b" ")?;
+    console::choice(rt, s.choice())?;
+    console::text(rt, b" ")
 }
 
 // Each number, and the part that it has.
-fn looked(bytes: &[u8], numbers: &[u8]) {
+fn looked(rt: &impl Print, bytes: &[u8], numbers: &[u8]) -> io::Result<()> {
     let mut i = 0;
     while i < numbers.len() {
-        comma(i);
+        comma(rt, i)?;
         let n = numbers[i];
-        part(bytes, Number(n));
+        part(rt, bytes, Number(n))?;
         i += 1;
     }
+    Ok(())
 }
 
 // Between one and the next.
-fn comma(i: usize) {
+fn comma(rt: &impl Print, i: usize) -> io::Result<()> {
     if i > 0 {
-        console::text(b",");
+        console::text(rt, b",")?;
     }
+    Ok(())
 }
 
-fn part(bytes: &[u8], n: Number) {
-    console::say(n.0 as u64, b":");
-    console::hex(image::look_up(bytes, n));
+fn part(rt: &impl Print, bytes: &[u8], n: Number) -> io::Result<()> {
+    console::say(rt, n.0 as u64, b":")?;
+    console::hex(rt, image::look_up(bytes, n))
 }
 
 // A refused update gives the fresh state, so there is an image for every vector.
-fn updated(bytes: &[u8]) {
+fn updated(rt: &impl Print, bytes: &[u8]) -> io::Result<()> {
     let r = image::update(bytes);
     let s = r.state;
-    console::text(b" ");
-    console::say(r.code as u64, b" ");
-    console::image_of(s);
+    console::text(rt, b" ")?;
+    console::say(rt, r.code as u64, b" ")?;
+    console::image_of(rt, s)
 }

@@ -6,63 +6,78 @@ use crate::{buffers, fields};
 use journal::Read;
 use nucleus::State;
 use rules::Event;
+use std::io;
 
 // The longest log of a vector. It is over the limit, so that the refusal of such a log is run too.
 const ROOM: usize = 40000;
 
-pub fn run(vector: &[u8]) {
-    console::text(b"record ");
+pub fn run(rt: &impl Print, vector: &[u8]) -> io::Result<()> {
+    console::text(rt, b"record ")?;
     tried(
+        rt,
         fields::first(vector),
         fields::second(vector),
         fields::third(vector),
-    );
+    )
 }
 
 // The event of a record, recorded in the state of an image. The sizes are the log's room, the byte that it is full of, and the start.
-fn tried(image: &[u8], sizes: &[u8], written: &[u8]) {
+fn tried(rt: &impl Print, image: &[u8], sizes: &[u8], written: &[u8]) -> io::Result<()> {
     let from = image::load(image);
     let s = from.state;
     let got = journal::read_at(written, 0);
     let Read::Record { event, next: _ } = got else {
-        console::text(b"no record");
-        return;
+        return console::text(rt, b"no record");
     };
     let room = fields::number_at(sizes, 0);
     if room > ROOM {
-        console::text(b"no room");
-        return;
+        return console::text(rt, b"no room");
     }
     logged(
+        rt,
         s,
         event,
         room,
         buffers::fill_of(sizes),
         fields::number_at(sizes, 5),
-    );
+    )
 }
 
 // The event is recorded in a log of so much room, full of one byte.
-fn logged(s: State, e: Event, room: usize, fill: u8, start: usize)
+fn logged(
+    rt: &impl Print,
+    s: State,
+    e: Event,
+    room: usize,
+    fill: u8,
+    start: usize,
+) -> io::Result<()>
     requires { room ≤ 40000 }
 {
     let mut log = [fill; ROOM];
-    recorded(s, e, &mut log[..room], fill, start);
+    recorded(rt, s, e, &mut log[..room], fill, start)
 }
 
 // `CODE CHOICE NUMBER POSITION IMAGE WROTE kept`.
-fn recorded(s: State, e: Event, log: &mut [u8], fill: u8, start: usize) {
+fn recorded(
+    rt: &impl Print,
+    s: State,
+    e: Event,
+    log: &mut [u8],
+    fill: u8,
+    start: usize,
+) -> io::Result<()> {
     let r = logging::record(s, log, start, e);
     let choice = r.choice;
     let after = r.state;
     let position = r.position;
-    console::say(r.code as u64, b" ");
-    console::choice(choice);
-    console::text(b" ");
-    console::say(r.number.0 as u64, b" ");
-    console::say(position as u64, b" ");
-    console::image_of(after);
-    console::text(b" ");
-    buffers::wrote(log, start, position);
-    buffers::kept(log, fill, start, position);
+    console::say(rt, r.code as u64, b" ")?;
+    console::choice(rt, choice)?;
+    console::text(rt, b" ")?;
+    console::say(rt, r.number.0 as u64, b" ")?;
+    console::say(rt, position as u64, b" ")?;
+    console::image_of(rt, after)?;
+    console::text(rt, b" ")?;
+    buffers::wrote(rt, log, start, position)?;
+    buffers::kept(rt, log, fill, start, position)
 }

@@ -3,43 +3,44 @@
 ghost use Rattle.std.specs.Prelude.{◌≤◌};
 
 use crate::{buffers, fields};
+use std::io;
 
 // The longest buffer of a vector. It is longer than any report.
 const ROOM: usize = 4096;
 
-pub fn run(vector: &[u8]) {
-    console::text(b"depot ");
+pub fn run(rt: &impl Print, vector: &[u8]) -> io::Result<()> {
+    console::text(rt, b"depot ")?;
     tried(
+        rt,
         fields::first(vector),
         fields::second(vector),
         fields::third(vector),
-    );
+    )
 }
 
 // The sizes are the buffer's room, and the byte that it is full of.
-fn tried(image: &[u8], log: &[u8], sizes: &[u8]) {
+fn tried(rt: &impl Print, image: &[u8], log: &[u8], sizes: &[u8]) -> io::Result<()> {
     let room = fields::number_at(sizes, 0);
     if room > ROOM {
-        console::text(b"no room");
-        return;
+        return console::text(rt, b"no room");
     }
-    lent(image, log, room, buffers::fill_of(sizes));
+    lent(rt, image, log, room, buffers::fill_of(sizes))
 }
 
 // The report goes into a buffer of so much room, full of one byte.
-fn lent(image: &[u8], log: &[u8], room: usize, fill: u8)
+fn lent(rt: &impl Print, image: &[u8], log: &[u8], room: usize, fill: u8) -> io::Result<()>
     requires { room ≤ 4096 }
 {
     let mut buffer = [fill; ROOM];
-    reported(image, log, &mut buffer[..room], fill);
+    reported(rt, image, log, &mut buffer[..room], fill)
 }
 
 // `CODE LENGTH TEXT kept`.
-fn reported(image: &[u8], log: &[u8], out: &mut [u8], fill: u8) {
+fn reported(rt: &impl Print, image: &[u8], log: &[u8], out: &mut [u8], fill: u8) -> io::Result<()> {
     let t = depot::report(image, log, out);
     let n = t.length as usize;
-    console::say(t.code as u64, b" ");
-    console::say(n as u64, b" ");
-    buffers::wrote(out, 0, n);
-    buffers::kept(out, fill, 0, n);
+    console::say(rt, t.code as u64, b" ")?;
+    console::say(rt, n as u64, b" ")?;
+    buffers::wrote(rt, out, 0, n)?;
+    buffers::kept(rt, out, fill, 0, n)
 }
