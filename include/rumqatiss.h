@@ -116,7 +116,7 @@
 
    rumqatiss_report gives 0 and 7 only: 8 to 11 stand in its text, and for 12 and 13 the words `torn` and `unknown`.
 
-   The library is for x86-64. `rt staticlib board` writes it, as target/staticlib/libboard.a. */
+   The library is for x86-64. `c/build` writes it, as target/staticlib/libboard.a. */
 #ifndef RUMQATISS_H
 #define RUMQATISS_H
 

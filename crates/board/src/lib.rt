@@ -1,5 +1,5 @@
 // The board (document 01): the board's start code is C. Each entry takes an image, and gives one back, or tells of it; whatever the bytes, every result and
-// every byte of the output buffer is settled. include/rumqatiss.h says the same to those who write C.
+// every byte of the output buffer is settled. include/rumqatiss.h says the same to those who write C, whom the crate board_c gives these entries.
 #![tactic(auto)]
 
 ghost use Rattle.std.specs.Prelude.{◌≡◌, ◌≤◌};
@@ -130,8 +130,7 @@ fn step(image: &[u8], rec: &[u8], out: &mut [u8]) -> Told
 }
 
 // One record happens to an image. The code is returned.
-#[unsafe(no_mangle)]
-pub extern "C" fn rumqatiss_board(
+pub fn rumqatiss_board(
     image: &[u8],
     rec: &[u8],
     out: &mut [u8],
@@ -160,8 +159,7 @@ fn begin(out: &mut [u8]) -> Saved
 }
 
 // The image of the fresh state. The code is returned.
-#[unsafe(no_mangle)]
-pub extern "C" fn rumqatiss_fresh(out: &mut [u8], size: &mut u16) -> u8
+pub fn rumqatiss_fresh(out: &mut [u8], size: &mut u16) -> u8
     ensures { (result, size.new, out.new) ≡ fresh_on out.old }
 {
     let saved = begin(out);
@@ -219,8 +217,7 @@ fn bring(image: &[u8], log: &[u8], out: &mut [u8]) -> Brought
 }
 
 // A log is replayed on an image. The code is returned.
-#[unsafe(no_mangle)]
-pub extern "C" fn rumqatiss_replay(
+pub fn rumqatiss_replay(
     image: &[u8],
     log: &[u8],
     out: &mut [u8],
@@ -283,8 +280,7 @@ fn carry(image: &[u8], out: &mut [u8]) -> Carried
 }
 
 // An image of a build with older rules becomes one of today's. The code is returned.
-#[unsafe(no_mangle)]
-pub extern "C" fn rumqatiss_update(
+pub fn rumqatiss_update(
     image: &[u8],
     out: &mut [u8],
     choice: &mut u8,
@@ -302,13 +298,7 @@ pub extern "C" fn rumqatiss_update(
 }
 
 // Where in an image the body of the thread with this number stands. The code is returned.
-#[unsafe(no_mangle)]
-pub extern "C" fn rumqatiss_look_up(
-    image: &[u8],
-    number: u8,
-    offset: &mut u16,
-    size: &mut u16,
-) -> u8
+pub fn rumqatiss_look_up(image: &[u8], number: u8, offset: &mut u16, size: &mut u16) -> u8
     ensures { Locates image.now number result offset.new size.new }
 {
     let part = image::locate(image, Number(number));
@@ -318,8 +308,7 @@ pub extern "C" fn rumqatiss_look_up(
 }
 
 // What an image and its log come to, in a text. The code is returned.
-#[unsafe(no_mangle)]
-pub extern "C" fn rumqatiss_report(image: &[u8], log: &[u8], out: &mut [u8], size: &mut u16) -> u8
+pub fn rumqatiss_report(image: &[u8], log: &[u8], out: &mut [u8], size: &mut u16) -> u8
     ensures { Tells Report image.now log.now out.old
         (record { code = result; length = size.new }, out.new) }
 {
