@@ -1,5 +1,5 @@
 -- Where all tests hold the nucleus is consistent, by the rules that they go by (`judged`).
-use Rattle.std.specs.Prelude.{ℕ, ◌-◌, ◌≤◌, ◌<◌, ◌^◌, ◌≡◌, refl, ◌≢◌, List, [], ◌∷◌, Bool, true, false, ◌&&◌, ◌||◌, length, get_or, eqb, ltb}
+use Rattle.std.specs.Prelude.{ℕ, ◌≤◌, ◌<◌, ◌^◌, ◌≡◌, refl, ◌≢◌, List, [], ◌∷◌, Bool, true, false, ◌&&◌, ◌||◌, length, get_or, eqb, ltb}
 use Rattle.std.proofs.Common.{sym, ap, ◌∙◌, arith, eqb-true, eq-eqb, ne_eqb, leb-true, ltb-true, lt-ltb, le-ltb}
 use Rattle.std.proofs.Math.Bool.{or-false}
 use Rattle.std.proofs.Math.Decide.{ℕ_discrete, dec_lt}
@@ -8,7 +8,7 @@ use Rattle.lists.specs.Lists.{none, bit, count}
 use Rattle.lists.specs.Laws.{never, and_left, and_right}
 use Rattle.kin.specs.Climb.{climb}
 use Rattle.rules.specs.Values.{nobody}
-use Rattle.rules.specs.Model.{places, devices, queue_count, last_number, Empty, Ready, Sending, Awaiting, Receiving, Waiting, AtDevice, Thread, vacant, Model, ready, clock, device, inbox, line_count, thread, line}
+use Rattle.rules.specs.Model.{places, devices, last_number, Empty, Ready, Sending, Awaiting, Receiving, Waiting, AtDevice, Thread, vacant, Model, ready, clock, device, inbox, line_count, thread, line}
 use Rattle.rules.specs.Rules.{hears, is_nil}
 use Rattle.rules.specs.Consistent.{is_number, as_table, above, belongs, OldConsistent, ListensToLive, ConsistentBy}
 use Rattle.order.specs.Sound.{Fit, numbered, Sound, Kin, old_whole, out, inside}

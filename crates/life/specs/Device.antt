@@ -11,7 +11,7 @@ use Rattle.rules.specs.declared.Device.{Device}
 use Rattle.rules.specs.declared.Pending.{Pending}
 use Rattle.rules.specs.declared.Event.TheVariants.{WaitDevice, Interrupt}
 use Rattle.order.specs.Devices.{first_low}
-use Rattle.table.specs.Cells.{shown, Stands}
+use Rattle.table.specs.Cells.{Stands}
 use Rattle.table.specs.Rows.{line_at}
 use Rattle.table.specs.declared.Desk.{Desk}
 use Rattle.events.specs.declared.Outcome.{Outcome}

@@ -42,14 +42,14 @@ from_next p (x ∷ xs) d n h =
     let ne = not_head none x xs n in
     by_test (eqb x p)
     (λ e.
-        let u : next_in p (x ∷ xs) ≡ front xs = rw e in
-        let v : on_from p (x ∷ xs) ≡ x ∷ xs = rw e in
-        ap (λ i. on_from i (x ∷ xs)) u ∙ from_other x (front xs) xs (front_not x xs d.0 ne) ∙ from_front xs ∙ sym (ap rest v))
+    let u : next_in p (x ∷ xs) ≡ front xs = rw e in
+    let v : on_from p (x ∷ xs) ≡ x ∷ xs = rw e in
+    ap (λ i. on_from i (x ∷ xs)) u ∙ from_other x (front xs) xs (front_not x xs d.0 ne) ∙ from_front xs ∙ sym (ap rest v))
     (λ e.
-        let g : among p xs ≡ true = rw e at h in
-        let u : next_in p (x ∷ xs) ≡ next_in p xs = rw e in
-        let v : on_from p (x ∷ xs) ≡ on_from p xs = rw e in
-        ap (λ i. on_from i (x ∷ xs)) u ∙ from_other x (next_in p xs) xs (next_in_lem p xs x d.0 ne) ∙ ih g ∙ sym (ap rest v))
+    let g : among p xs ≡ true = rw e at h in
+    let u : next_in p (x ∷ xs) ≡ next_in p xs = rw e in
+    let v : on_from p (x ∷ xs) ≡ on_from p xs = rw e in
+    ap (λ i. on_from i (x ∷ xs)) u ∙ from_other x (next_in p xs) xs (next_in_lem p xs x d.0 ne) ∙ ih g ∙ sym (ap rest v))
   where
     from_other : (x y : ℕ) (xs : List ℕ) → (x ≡ y → ⊥) → on_from y (x ∷ xs) ≡ on_from y xs
     from_other x y xs k = rw (ne_eqb x y k)

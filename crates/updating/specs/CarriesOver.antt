@@ -1,12 +1,12 @@
 -- A state is carried over: all who listen for the dead have been woken, and the front of ready started.
 use Rattle.std.specs.Prelude.{ℕ, ◌≡◌, List, [], false}
 use Rattle.std.proofs.Common.{sym, ap, subst, ◌∙◌}
-use Rattle.rules.specs.Model.{places, Model, all_places, lives_at}
-use Rattle.rules.specs.Rules.{dispatched, let_go, deserted, updated}
+use Rattle.rules.specs.Model.{places, Model, lives_at}
+use Rattle.rules.specs.Rules.{dispatched, deserted, updated}
 use Rattle.rules.specs.Consistent.{Consistent}
 use Rattle.order.specs.Sound.{old_sound}
 use Rattle.order.specs.Update.{updates, update_lives}
-use Rattle.table.specs.Cells.{model_of, shown, StandsBy}
+use Rattle.table.specs.Cells.{model_of, shown}
 use Rattle.table.specs.declared.Desk.{Desk}
 use Rattle.verbs.specs.Steps.{Steps, Turns}
 use Rattle.events.specs.Events.{filled_lives}

@@ -6,7 +6,7 @@ use Rattle.lists.specs.Tables.{length_tab}
 use Rattle.lines.specs.Lines.{line_of, Popped}
 use Rattle.lines.specs.Callers.{Nobody, Somebody, pop_none, pop_some}
 use Rattle.rules.specs.Values.{nobody}
-use Rattle.rules.specs.Model.{places, line_count, Running, Ready, ready, line}
+use Rattle.rules.specs.Model.{places, line_count, Running, Ready, ready}
 use Rattle.rules.specs.Rules.{stands, told, join, relined, readied, woken, starts, dispatched}
 use Rattle.table.specs.Cells.{thread_of, model_of, Whole}
 use Rattle.table.specs.Rows.{line_at}
