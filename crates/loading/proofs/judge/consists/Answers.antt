@@ -1,0 +1,6 @@
+-- `consists` meets its contract: the test is made of the arrays and the desk. Assumes nothing.
+use borrow.Author.Rules.{rules}
+use Rattle.loading.proofs.judge.consists.Goals as goal
+
+pub returns : goal.returns
+returns c = rw (← c.desk-d.ensures) c.consistent_by.ensures

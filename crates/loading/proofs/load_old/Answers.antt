@@ -1,0 +1,6 @@
+-- `load_old` meets its contract. Assumes nothing.
+use borrow.Author.Rules.{rules}
+use Rattle.loading.proofs.load_old.Goals as goal
+
+pub returns : goal.returns
+returns c = c.load_by.ensures
