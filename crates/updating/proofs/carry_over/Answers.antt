@@ -1,0 +1,14 @@
+-- `carry_over` meets its contract: what the two steps have made of the arrays is what the rule says.
+use borrow.Author.Rules.{rules}
+use Rattle.updating.specs.CarriesOver.{starts, carries_over}
+use Rattle.updating.proofs.carry_over.Goals as goal
+
+pub wake_all-requires : goal.wake_all-requires
+wake_all-requires c = starts c.requires
+
+pub dispatch-e-requires : goal.dispatch-e-requires
+dispatch-e-requires c = c.wake_all.ensures.whole
+
+pub returns : goal.returns
+returns c =
+    carries_over c.requires c.desk-d.ensures c.wake_all.ensures c.dispatch-e.ensures c.lay.ensures

@@ -1,0 +1,18 @@
+-- `is_deserted` meets its contract: it goes by the cases of the test.
+use borrow.Author.Rules.{rules}
+use native.Mathlib.Omega.{arith}
+use Rattle.updating.specs.Deserted.{not_receiving, from_any, from_named}
+use Rattle.updating.proofs.is_deserted.Goals as goal
+
+pub returns-then-standing_of-ne-RECEIVING : goal.returns-then-standing_of-ne-RECEIVING
+returns-then-standing_of-ne-RECEIVING c =
+    not_receiving c.args.b.now c.args.p.0 c.standing_of.ensures c.if-standing_of-ne-RECEIVING.true
+
+pub returns-then-n : goal.returns-then-n
+returns-then-n c =
+    from_any c.args.b.now c.args.p.0 c.standing_of.ensures (omega (arith, c.if-standing_of-ne-RECEIVING.false)) c.partner_of-n.ensures c.if-n.true
+
+pub returns : goal.returns
+returns c =
+    from_named c.args.b.now c.args.p.0 c.standing_of.ensures (omega (arith, c.if-standing_of-ne-RECEIVING.false)) c.partner_of-n.ensures
+    c.if-n.false c.find.ensures

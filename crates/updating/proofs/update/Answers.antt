@@ -1,0 +1,14 @@
+-- `update` meets its contract: load's refusals, or what was loaded, carried over.
+use borrow.Author.Rules.{rules}
+use Rattle.loading.specs.Accepts.{accepted_of}
+use Rattle.updating.specs.Updates.{update_refused, update_done}
+use Rattle.updating.proofs.update.Goals as goal
+
+pub returns-then-from-ne-DONE : goal.returns-then-from-ne-DONE
+returns-then-from-ne-DONE c = update_refused c.load_old-from.ensures c.if-from-ne-DONE.true
+
+pub carry_over-t-requires : goal.carry_over-t-requires
+carry_over-t-requires c = (accepted_of c.load_old-from.ensures c.if-from-ne-DONE.false).consists
+
+pub returns : goal.returns
+returns c = update_done c.load_old-from.ensures c.if-from-ne-DONE.false c.carry_over-t.ensures
