@@ -3,13 +3,13 @@ use mathlib.Core.List.{[], ◌∷◌}
 use types.Run.{miss}
 use Rattle.nucleus.specs.View.{view}
 use Rattle.logging.specs.Reading.{stop_or}
-use Rattle.board.specs.Answers.{take-bad, take_more, take-one}
+use Rattle.board.specs.Answers.{take_bad, take_more, take_one}
 use borrow.Author.Rules.{rules}
 use Rattle.board.proofs.take.Goals as goal
 
 pub returns-in_default : goal.returns-in_default
 returns-in_default c =
-    take-bad (view c.args.s) c.args.rec.now c.args.out.now c.read_at-got.ensures (stop_or c.read_at-got.result c.in_default.not-Record) c.bad.ensures c.choose.ensures c.decline.ensures
+    take_bad (view c.args.s) c.args.rec.now c.args.out.now c.read_at-got.ensures (stop_or c.read_at-got.result c.in_default.not-Record) c.bad.ensures c.choose.ensures c.decline.ensures
 
 pub returns-then-next-rec : goal.returns-then-next-rec
 returns-then-next-rec c =
@@ -18,5 +18,5 @@ returns-then-next-rec c =
 
 pub returns : goal.returns
 returns c =
-    take-one (view c.args.s) c.args.rec.now c.args.out.now c.read_at-got.ensures c.in-Record.is
+    take_one (view c.args.s) c.args.rec.now c.args.out.now c.read_at-got.ensures c.in-Record.is
     c.if-next-rec.false c.act.ensures
