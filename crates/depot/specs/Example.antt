@@ -9,7 +9,8 @@ use Rattle.rules.specs.Values.{nobody}
 use Rattle.rules.specs.Model.{Place, Empty, Thread, vacant, Model, thread, line, all_places}
 use Rattle.rules.specs.Rules.{first_free, outside, fresh, after}
 use Rattle.rules.specs.declared.Event.TheVariants.{Create, WaitClock, SliceEnd, Tick}
-use Rattle.order.specs.Keeps.{fresh_consistent, always}
+use Rattle.order.proofs.Keeps.{fresh_consistent}
+use Rattle.order.proofs.Always.{always}
 use Rattle.rules.specs.Devices.{all_devices}
 use Rattle.journal.specs.Format.{length_of, event_of, read_from, read_at}
 use Rattle.saving.specs.Format.{queues_of, parents_of, places_of, row_of, queues_in, encode_as}

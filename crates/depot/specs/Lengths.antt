@@ -7,7 +7,7 @@ use Rattle.rules.specs.Values.{nobody}
 use Rattle.rules.specs.Model.{Place, devices, Running, Ready, Sending, Awaiting, Receiving, Waiting, AtDevice, Thread}
 use Rattle.rules.specs.Consistent.{is_number, as_table}
 use Rattle.journal.specs.Format.{read_at}
-use Rattle.journal.specs.Laws.{read_spans}
+use Rattle.journal.proofs.Laws.{read_spans}
 use Rattle.journal.specs.declared.Read.{Read}
 use Rattle.journal.specs.declared.Read.TheVariants.{Record, AtEnd, CutShort, UnknownKind, PastEnd}
 use Rattle.logging.specs.Log.{limit, Parsed, goes_on, parsed, records_in}

@@ -10,9 +10,11 @@ use Rattle.rules.specs.Rules.{first_free, outside, end_down, fresh, next, after,
 use Rattle.rules.specs.Consistent.{Fits, Consistent}
 use Rattle.rules.specs.declared.Event.{Event}
 use Rattle.rules.specs.declared.Event.TheVariants.{Create, Send, Receive, End, WaitClock}
-use Rattle.order.specs.Keeps.{AllFit, always, fresh_consistent}
+use Rattle.order.specs.Keeps.{AllFit}
+use Rattle.order.proofs.Keeps.{fresh_consistent}
+use Rattle.order.proofs.Always.{always}
 use Rattle.journal.specs.Format.{number, record_of, arguments_of, length_of, read_at}
-use Rattle.journal.specs.Laws.{read_behind, read_back, from_unknown}
+use Rattle.journal.proofs.Laws.{read_behind, read_back, from_unknown}
 use Rattle.journal.specs.declared.Read.TheVariants.{Record, UnknownKind}
 use Rattle.saving.specs.Format.{encode}
 use Rattle.saving.specs.Longest.{longest}

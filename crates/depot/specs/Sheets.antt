@@ -12,7 +12,7 @@ use Rattle.rules.specs.Rules.{choice}
 use Rattle.rules.specs.Consistent.{Consistent}
 use Rattle.rules.specs.declared.Choice.{Choice}
 use Rattle.rules.specs.declared.Choice.TheVariants.{Run, Halt, Wait, Stuck}
-use Rattle.order.specs.Keeps.{always}
+use Rattle.order.proofs.Always.{always}
 use Rattle.journal.specs.Laws.{Bytes}
 use Rattle.logging.specs.Log.{records_in}
 use Rattle.logging.specs.Exact.{exact}

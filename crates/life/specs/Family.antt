@@ -20,8 +20,9 @@ use Rattle.order.specs.Places.{lives_at_lem, at_empty, placed}
 use Rattle.order.specs.EndOne.{one_ends}
 use Rattle.order.specs.Recursion.{MayEnd, down_step, may_end, some_depth, may_child, may_after, children_asked}
 use Rattle.order.specs.Accepted.{accepted}
-use Rattle.order.specs.Acts.{does as act-done}
-use Rattle.order.specs.Lives.{lives_now, act_lives}
+use Rattle.order.proofs.Acts.{does as act-done}
+use Rattle.order.specs.Lives.{lives_now}
+use Rattle.order.proofs.Lives.{act_lives}
 use Rattle.table.specs.Cells.{cell, shown, Whole, stands_at, Filled, Stands}
 use Rattle.table.specs.Rows.{thread_at}
 use Rattle.table.specs.declared.Desk.{Desk}

@@ -11,7 +11,8 @@ use Rattle.rules.specs.Model.{Empty, Thread, vacant, Model, thread, line, all_pl
 use Rattle.rules.specs.Rules.{is_nil, first_free, fresh, after}
 use Rattle.rules.specs.declared.Event.{Event}
 use Rattle.rules.specs.declared.Event.TheVariants.{Create, WaitClock, SliceEnd, Tick, WaitDevice}
-use Rattle.order.specs.Keeps.{fresh_consistent, always}
+use Rattle.order.proofs.Keeps.{fresh_consistent}
+use Rattle.order.proofs.Always.{always}
 use Rattle.rules.specs.Consistent.{Consistent}
 use Rattle.nucleus.specs.View.{view, Shows}
 use Rattle.nucleus.specs.declared.State.{State}

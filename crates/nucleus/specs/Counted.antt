@@ -8,7 +8,9 @@ use Rattle.rules.specs.Rules.{Outcome, outcome, fresh, gave, after}
 use Rattle.rules.specs.Consistent.{belongs, OldConsistent, Consistent}
 use Rattle.rules.specs.Counted.{Seen, played, begun, found, one, dropped, left_holding, ready_holding, first_ended, cases, counted}
 use Rattle.rules.specs.declared.Event.{Event}
-use Rattle.order.specs.Keeps.{AllFit, fresh_consistent, always}
+use Rattle.order.specs.Keeps.{AllFit}
+use Rattle.order.proofs.Keeps.{fresh_consistent}
+use Rattle.order.proofs.Always.{always}
 use Rattle.nucleus.specs.View.{view, held, refused}
 use Rattle.nucleus.specs.Answers.{Meets, Answers}
 use Rattle.nucleus.specs.declared.Reply.{Reply}

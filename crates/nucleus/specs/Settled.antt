@@ -12,7 +12,7 @@ use Rattle.rules.specs.Model as Model
 use Rattle.rules.specs.Model.{places, line_count, last_number, Empty, vacant}
 use Rattle.rules.specs.Rules.{fresh}
 use Rattle.rules.specs.Consistent.{Consistent}
-use Rattle.order.specs.Keeps.{fresh_consistent}
+use Rattle.order.proofs.Keeps.{fresh_consistent}
 use Rattle.table.specs.Cells.{thread_of, model_of, stands_at, as_thread}
 use Rattle.table.specs.declared.Thread.{Thread}
 use Rattle.table.specs.Rows.{same_blocks, same_words, same_lines}

@@ -10,13 +10,10 @@ pub mod Fill
 pub mod Standings
 pub mod Above
 pub mod KinKept
-pub mod KinCreate
 pub mod Dispatch
 pub mod Caller
 pub mod Numbers
 pub mod FirstFree
-pub mod Barred
-pub mod Create
 pub mod Send
 pub mod Receive
 pub mod Reply
@@ -31,13 +28,11 @@ pub mod Devices
 pub mod Accepted
 pub mod Acts
 pub mod Keeps
-pub mod Crowd
 pub mod Lives
 pub mod TurnComes
 pub mod Grown
 pub mod FamilyBack
 pub mod Returned
-pub mod BackOnly
 pub mod NobodyWaits
 pub mod Answerer
 pub mod Unheld

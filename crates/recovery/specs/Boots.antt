@@ -11,9 +11,12 @@ use Rattle.rules.specs.Model.{Model}
 use Rattle.rules.specs.Rules.{refusal, fresh, after, choice as chosen}
 use Rattle.rules.specs.Consistent.{Consistent}
 use Rattle.rules.specs.declared.Event.{Event}
-use Rattle.order.specs.Keeps.{AllFit, fresh_consistent, always}
+use Rattle.order.specs.Keeps.{AllFit}
+use Rattle.order.proofs.Keeps.{fresh_consistent}
+use Rattle.order.proofs.Always.{always}
 use Rattle.journal.specs.Format.{record_of, read_at}
-use Rattle.journal.specs.Laws.{Bytes, read_whole}
+use Rattle.journal.specs.Laws.{Bytes}
+use Rattle.journal.proofs.Laws.{read_whole}
 use Rattle.journal.specs.declared.Read.{Read}
 use Rattle.journal.specs.declared.Read.TheVariants.{Record, AtEnd, CutShort, UnknownKind, PastEnd}
 use Rattle.saving.specs.Format.{encode}

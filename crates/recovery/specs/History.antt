@@ -5,7 +5,9 @@ use Rattle.std.proofs.Common.{sym, ap, subst, ◌∙◌, append_assoc, append-ni
 use Rattle.rules.specs.Rules.{fresh, choice, after}
 use Rattle.rules.specs.Consistent.{Consistent}
 use Rattle.rules.specs.declared.Event.{Event}
-use Rattle.order.specs.Keeps.{AllFit, fresh_consistent, always}
+use Rattle.order.specs.Keeps.{AllFit}
+use Rattle.order.proofs.Keeps.{fresh_consistent}
+use Rattle.order.proofs.Always.{always}
 use Rattle.journal.specs.Format.{record_of}
 use Rattle.nucleus.specs.View.{view, Consists, Shows}
 use Rattle.nucleus.specs.Settled.{shows_one}

@@ -11,9 +11,10 @@ use Rattle.rules.specs.Rules.{Outcome, outcome, full, refusal, given, next, afte
 use Rattle.rules.specs.Consistent.{Fits, Consistent}
 use Rattle.rules.specs.declared.Event.{Event}
 use Rattle.rules.specs.declared.Event.TheVariants.{Create, Send, Receive, Reply, End, WaitClock, SliceEnd, Tick, WaitDevice, Interrupt}
-use Rattle.order.specs.Keeps.{keeps}
+use Rattle.order.proofs.Keeps.{keeps}
 use Rattle.journal.specs.Format.{read_at}
-use Rattle.journal.specs.Laws.{Bytes, read_whole}
+use Rattle.journal.specs.Laws.{Bytes}
+use Rattle.journal.proofs.Laws.{read_whole}
 use Rattle.journal.specs.declared.Read.{Read}
 use Rattle.journal.specs.declared.Read.TheVariants.{Record, AtEnd, CutShort, UnknownKind, PastEnd}
 use Rattle.saving.specs.Format.{encode}

@@ -9,7 +9,8 @@ use Rattle.rules.specs.declared.Event.{Event}
 use Rattle.rules.specs.declared.Event.TheVariants.{End}
 use Rattle.rules.specs.declared.Choice.TheVariants.{Run}
 use Rattle.order.specs.EndFamily.{Of}
-use Rattle.order.specs.TurnComes.{Queued, slices, Ends, Come, turn_comes}
+use Rattle.order.specs.TurnComes.{Queued, slices, Ends, Come}
+use Rattle.order.proofs.TurnComes.{turn_comes}
 use Rattle.nucleus.specs.View.{view, Consists, held, refused}
 use Rattle.nucleus.specs.declared.State.{State}
 use Rattle.nucleus.specs.declared.Reply.{Reply}

@@ -7,7 +7,9 @@ use Rattle.rules.specs.Rules.{first_free, fresh, after}
 use Rattle.rules.specs.Consistent.{Fits, Consistent}
 use Rattle.rules.specs.declared.Event.{Event}
 use Rattle.rules.specs.declared.Event.TheVariants.{Create, WaitClock}
-use Rattle.order.specs.Keeps.{AllFit, always, fresh_consistent}
+use Rattle.order.specs.Keeps.{AllFit}
+use Rattle.order.proofs.Keeps.{fresh_consistent}
+use Rattle.order.proofs.Always.{always}
 use Rattle.saving.specs.Format.{queues_in, encode_as, encode}
 use Rattle.saving.specs.Longest.{longest_image}
 

@@ -7,8 +7,9 @@ use Rattle.rules.specs.Model.{places, Model, lives_at}
 use Rattle.rules.specs.Rules.{dispatched, act, refusal, next, given}
 use Rattle.rules.specs.Consistent.{Consistent}
 use Rattle.rules.specs.declared.Event.{Event}
-use Rattle.order.specs.Keeps.{acts}
-use Rattle.order.specs.Lives.{lives_now, lives}
+use Rattle.order.proofs.Keeps.{acts}
+use Rattle.order.specs.Lives.{lives_now}
+use Rattle.order.proofs.Lives.{lives}
 use Rattle.table.specs.Cells.{shown, stands_at, Filled, Stands}
 use Rattle.table.specs.declared.Desk.{Desk}
 use Rattle.verbs.specs.Steps.{Turns}

@@ -12,12 +12,13 @@ use Rattle.order.specs.Moves.{still}
 use Rattle.order.specs.HandBack.{lets}
 use Rattle.order.specs.Update.{deserted_fair}
 use Rattle.order.specs.Accepted.{Accepted, accepted}
-use Rattle.order.specs.Grown.{Grown, grows, steps, grew_dispatched}
-use Rattle.order.specs.FamilyBack.{family_back}
-use Rattle.order.specs.Acts.{Done, does, acts_sound}
+use Rattle.order.specs.Grown.{Grown}
+use Rattle.order.proofs.Grown.{grows, steps, grew_dispatched}
+use Rattle.order.proofs.FamilyBack.{family_back}
+use Rattle.order.specs.Acts.{Done}
+use Rattle.order.proofs.Acts.{does, acts_sound}
 
 -- ---- every event
-
 acted : (e : Event) (m : Model) → Sound m → Accepted e m → Done e m → Grown (line m ready) (line (act e m) ready)
 acted Create m S A D = grows m _ S D.sound (λ s e. D.waits s (elsewhere m A s (omega arith)) e)
 acted (Send d w) m S A D = steps m _ S D
@@ -31,13 +32,11 @@ acted (WaitDevice i) m S A D = steps m _ S D
 acted (Interrupt s w) m S A D = steps m _ S D
 
 -- ---- the theorem
-
 pub back_only : (e : Event) (m : Model) → Consistent m → Fits e → Grown (line m ready) (line (next e m) ready)
 back_only e m C f = go (eqb (refusal e m) 0) refl
   where
     S : Sound m
     S = sound m C
-
     go : (b : Bool) → eqb (refusal e m) 0 ≡ b → Grown (line m ready) (line (cond b (dispatched (act e m)) m) ready)
     go true z =
         let r = eqb-true _ _ z in

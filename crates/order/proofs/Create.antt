@@ -13,7 +13,7 @@ use Rattle.order.specs.Lines.{joins}
 use Rattle.order.specs.Moves.{aside}
 use Rattle.order.specs.Fill.{Swap, changed}
 use Rattle.order.specs.Numbers.{free_low}
-use Rattle.order.specs.Barred.{some_clear}
+use Rattle.order.proofs.Barred.{some_clear}
 
 -- the empty place p takes a thread with an unused number
 pub filled : (m : Model) → Sound m → (p n : ℕ) → p < places → (thread m p).standing ≡ Empty → n ≤ last_number → place_of m n ≡ none → Swap m p (newcomer n (creator m)) (create_at p n m)

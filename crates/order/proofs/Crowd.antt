@@ -13,8 +13,8 @@ use Rattle.order.specs.Sound.{sound, kin}
 use Rattle.order.specs.Places.{empty, empty_place_lem}
 use Rattle.order.specs.Dispatch.{dispatch_kept}
 use Rattle.order.specs.Accepted.{accepted}
-use Rattle.order.specs.Acts.{does}
-use Rattle.order.specs.Keeps.{fresh_consistent, keeps}
+use Rattle.order.proofs.Acts.{does}
+use Rattle.order.proofs.Keeps.{fresh_consistent, keeps}
 
 -- where not every place is filled a create passes, ..
 pub passes : (m : Model) → live m < places → refusal Create m ≡ 0

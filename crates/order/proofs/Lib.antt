@@ -1,0 +1,17 @@
+pub mod EndFamily
+pub mod Acts
+pub mod Answerer
+pub mod BackOnly
+pub mod Keeps
+pub mod Always
+pub mod Crowd
+pub mod Lives
+pub mod NobodyWaits
+pub mod Returned
+pub mod TurnComes
+pub mod Unheld
+pub mod Grown
+pub mod FamilyBack
+pub mod Barred
+pub mod Create
+pub mod KinCreate
