@@ -28,7 +28,7 @@ pub fn text(rt: &impl Print, b: &[u8]) -> io::Result<()> {
     rt.write_all(b)
 }
 
-// What is wrong, which goes to standard error. What is no text in it is shown as such. Where this cannot be written either, there is nobody left to tell.
+// What is wrong, which goes to standard error. What is no text in it shows as U+FFFD. Where this cannot be written either, there is nobody left to tell.
 pub fn complain(rt: &impl Eprint, b: &[u8]) {
     for chunk in b.utf8_chunks() {
         let _ = rt.eprint(chunk.valid());

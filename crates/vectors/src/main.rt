@@ -25,8 +25,7 @@ const READER: u8 = 4;
 
 const DEPOT: u8 = 5;
 
-// A file of vectors is no longer than this: a third more than what vectors/make.py makes of its tables. With room for twice as much as this the checker runs
-// out of stack.
+// A file of vectors is no longer than this: a third more than what vectors/make.py makes of its tables.
 const ROOM: usize = 524288;
 
 fn main(rt: HostRuntime) -> io::Result<()> {

@@ -1,5 +1,4 @@
 -- `consistent` meets its contract: the test by the rules as they are.
-use borrow.Author.Rules.{rules}
 use Rattle.audit.proofs.consistent.Goals as goal
 
 pub returns : goal.returns

@@ -1,5 +1,4 @@
 -- `consistent_by` meets its contract: what its parts tell, put together.
-use borrow.Author.Rules.{rules}
 use borrow.Author.Tests.{not-true, not-false}
 use Rattle.lists.specs.Tells.{tells_no}
 use mathlib.Core.Path.{sym, ◌∙◌}

@@ -1,10 +1,8 @@
 -- `ends` meets its contract. The loop's invariant: the walk from p has come to r. At each step one place fewer has no stamp.
 use native.Mathlib.Omega.{arith}
-use borrow.Author.Rules.{rules}
 use borrow.Author.Tests.{eqb-true, eqb-false, not-true, not-false}
-use Rattle.lists.specs.Lists.{count}
 use Rattle.lists.specs.Tells.{tells_yes}
-use Rattle.audit.specs.Rings.{Walk, fewer, walk_from, walk_on, walk_ends, walk_ring}
+use Rattle.audit.specs.Rings.{fewer, walk_from, walk_on, walk_ends, walk_ring}
 use Rattle.audit.proofs.ends.Goals as goal
 
 pub overflow_add-own : goal.overflow_add-own

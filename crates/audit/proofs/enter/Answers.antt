@@ -1,5 +1,4 @@
 -- `enter` meets its contract: the place is empty, or its number is taken, or it is new.
-use borrow.Author.Rules.{rules}
 use native.Mathlib.Omega.{arith}
 use Rattle.lists.specs.Tells.{tells_yes, tells_no}
 use mathlib.Core.Path.{ap}

@@ -1,14 +1,9 @@
 -- `every` meets its contract. The loop's invariant: the places passed pass.
 use Prim.Native.Nat.{ℕ, ◌≤◌, ◌<◌, ◌-◌}
-use mathlib.Core.Path.{◌≡◌, sym, ◌∙◌}
-use native.Mathlib.Omega.{arith}
-use borrow.Author.Rules.{rules}
-use Rattle.lists.specs.Tells.{tells_yes, tells_no}
-use borrow.Author.Tests.{not-true, not-false}
+use mathlib.Core.Path.{◌≡◌}
 use Rattle.rules.specs.Model.{places}
 use mathlib.Core.Bool.{true}
 use mathlib.Core.List.{[]}
-use borrow.Author.Count.{below_more}
 use Rattle.table.specs.Cells.{model_of}
 use Rattle.audit.specs.Tests.{place_test}
 use Rattle.audit.proofs.every.Given as goal

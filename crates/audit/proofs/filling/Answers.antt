@@ -1,14 +1,11 @@
 -- `filling` meets its contract. The loop's invariant: the word is that of the places passed.
-use Prim.Native.Nat.{◌≤◌, ◌-◌}
 use mathlib.Core.Path.{◌≡◌, sym, ap, ◌∙◌}
 use mathlib.Core.Bool.{not}
 use native.Mathlib.Numerals.{add-one}
 use native.Mathlib.Omega.{arith}
-use borrow.Author.Rules.{rules}
 use borrow.Author.Tests.{eq-eqb, ne_eqb}
 use Rattle.rules.specs.Model.{places}
-use mathlib.Core.Logic.{⊎_elim}
-use Rattle.filled.specs.Filled.{word_of, upto}
+use Rattle.filled.specs.Filled.{upto}
 use Rattle.filled.specs.Upto.{upto_none, upto_all, upto_in, upto_out}
 use Rattle.table.specs.Cells.{stands_at}
 use Rattle.audit.proofs.filling.Goals as goal
@@ -23,9 +20,9 @@ loop-p-preserved c =
     let h = c.loop-p-test.true in (
       omega arith,
       rw add-one (elim c.if-b-p-ne-EMPTY.branch [
-      then-b-p-ne-EMPTY v ↦ v.x-is ∙ v.with-x.ensures (upto w.p (stands_at c.args.b.now)) w.invariant.1 ∙ upto_in places w.p (stands_at c.args.b.now) (ap not (ne_eqb _ _ v.if-b-p-ne-EMPTY.true))
-    | else-b-p-ne-EMPTY v ↦ v.x-is ∙ w.invariant.1 ∙ upto_out places w.p (stands_at c.args.b.now) (ap not (eq-eqb _ _ v.if-b-p-ne-EMPTY.false))
-    ]),
+        | then-b-p-ne-EMPTY v ↦ v.x-is ∙ v.with-x.ensures (upto w.p (stands_at c.args.b.now)) w.invariant.1 ∙ upto_in places w.p (stands_at c.args.b.now) (ap not (ne_eqb _ _ v.if-b-p-ne-EMPTY.true))
+        | else-b-p-ne-EMPTY v ↦ v.x-is ∙ w.invariant.1 ∙ upto_out places w.p (stands_at c.args.b.now) (ap not (eq-eqb _ _ v.if-b-p-ne-EMPTY.false))
+      ]),
     )
 
 pub returns : goal.returns

@@ -1,5 +1,4 @@
 -- `fits` meets its contract: the two ways are those of the definition.
-use borrow.Author.Rules.{rules}
 use borrow.Author.Tests.{eq-eqb, ne_eqb}
 use Rattle.audit.proofs.fits.Goals as goal
 

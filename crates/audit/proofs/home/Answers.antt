@@ -1,5 +1,4 @@
 -- `home` meets its contract: the ways are those of the definition.
-use borrow.Author.Rules.{rules}
 use mathlib.Core.Path.{◌∙◌}
 use borrow.Author.Tests.{ne_eqb, lt-ltb, le-ltb}
 use Rattle.table.specs.Cells.{inbox_line}

@@ -1,12 +1,8 @@
 -- `index` meets its contract. The loop's invariant: the places passed are in the index.
-use Prim.Native.Nat.{◌≤◌, ◌-◌}
 use mathlib.Core.Path.{◌≡◌}
 use native.Mathlib.Omega.{arith}
-use borrow.Author.Rules.{rules}
 use Rattle.lists.specs.Tells.{tells_yes, tells_no}
-use borrow.Author.Tests.{not-true, not-false}
 use Rattle.rules.specs.Model.{places}
-use Rattle.audit.specs.Loops.{Indexed}
 use Rattle.audit.proofs.index.Goals as goal
 
 pub loop-p-init : goal.loop-p-init

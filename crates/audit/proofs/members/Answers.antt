@@ -1,6 +1,4 @@
 -- `members` meets its contract: an index of the numbers, and then every place and the chains of parents by it.
-use borrow.Author.Rules.{rules}
-use borrow.Author.Tests.{not-true, not-false}
 use Rattle.lists.specs.Tells.{tells_no}
 use mathlib.Core.Path.{refl}
 use Rattle.audit.specs.Loops.{enter_none}

@@ -1,5 +1,4 @@
 -- `parented` meets its contract: the number is looked up as the byte that it is.
-use borrow.Author.Rules.{rules}
 use Rattle.audit.proofs.parented.Goals as goal
 
 pub returns : goal.returns

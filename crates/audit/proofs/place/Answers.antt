@@ -1,5 +1,4 @@
 -- `place` meets its contract: six tests, of the thread that stands there.
-use borrow.Author.Rules.{rules}
 use mathlib.Core.Path.{sym, ap, ◌∙◌}
 use mathlib.Core.List.{[]}
 use Prim.Native.Nat.{ℕ}

@@ -1,12 +1,8 @@
 -- `ringless` meets its contract. The loop's invariant: the walks from the places passed have ended.
-use Prim.Native.Nat.{◌≤◌, ◌-◌}
 use mathlib.Core.Path.{refl}
 use native.Mathlib.Omega.{arith}
-use borrow.Author.Rules.{rules}
 use Rattle.lists.specs.Tells.{tells_yes, tells_no}
-use borrow.Author.Tests.{not-true, not-false}
-use Rattle.rules.specs.Model.{places}
-use Rattle.audit.specs.Rings.{Stamped, stamp_none}
+use Rattle.audit.specs.Rings.{stamp_none}
 use Rattle.audit.proofs.ringless.Goals as goal
 
 pub loop-p-init : goal.loop-p-init

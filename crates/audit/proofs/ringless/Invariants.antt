@@ -1,12 +1,7 @@
 -- `ringless` meets its contract. The loop's invariant: the walks from the places passed have ended.
 use Prim.Native.Nat.{◌≤◌, ◌-◌}
-use mathlib.Core.Path.{refl}
-use native.Mathlib.Omega.{arith}
-use borrow.Author.Rules.{rules}
-use Rattle.lists.specs.Tells.{tells_yes, tells_no}
-use borrow.Author.Tests.{not-true, not-false}
 use Rattle.rules.specs.Model.{places}
-use Rattle.audit.specs.Rings.{Stamped, stamp_none}
+use Rattle.audit.specs.Rings.{Stamped}
 use Rattle.audit.proofs.ringless.Given as goal
 
 abbrev pub invariant-loop-p : goal.invariant-loop-p

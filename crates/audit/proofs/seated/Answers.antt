@@ -1,5 +1,4 @@
 -- `seated` meets its contract: the ways are those of the definition.
-use borrow.Author.Rules.{rules}
 use Rattle.audit.specs.Loops.{desk_last, desk_idle, desk_high, desk_busy}
 use native.Mathlib.Omega.{arith}
 use Rattle.audit.proofs.seated.Goals as goal

@@ -1,5 +1,4 @@
 -- `unheard` meets its contract: past the places nobody stands, so nobody waits to hear.
-use borrow.Author.Rules.{rules}
 use mathlib.Core.Path.{ap}
 use mathlib.Core.List.{[]}
 use mathlib.Core.Bool.{not}

@@ -1,5 +1,4 @@
 -- `words` meets its contract: it tells the length of the slice, and each of its words has 32 bits.
-use borrow.Author.Rules.{rules}
 use mathlib.Core.Path.{refl}
 use Rattle.audit.proofs.words.Goals as goal
 

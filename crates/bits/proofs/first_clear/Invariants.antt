@@ -1,12 +1,9 @@
 -- `first_clear` meets its contract: all from n on that are below what the loop has come to are in the set. Assumes nothing.
-use borrow.Author.Rules.{rules}
 use mathlib.Core.Path.{◌≡◌}
 use mathlib.Core.Bool.{Bool}
 use Prim.Native.Nat.{ℕ, ◌-◌, ◌*◌, ◌≤◌}
-use native.Mathlib.Omega.{arith}
 use Rattle.order.specs.FirstFree.{AllUsed}
 use Rattle.bits.specs.Set.{word_digits, word_count, set_of}
-use Rattle.bits.specs.Search.{turn_found, turn_none, through, zeros_fit}
 use Rattle.bits.proofs.first_clear.Given as goal
 
 abbrev pub invariant-loop-at : goal.invariant-loop-at

@@ -1,5 +1,4 @@
 -- `insert` meets its contract. Assumes nothing.
-use borrow.Author.Rules.{rules}
 use native.Mathlib.Omega.{arith}
 use Rattle.bits.specs.Adds.{adds_one}
 use Rattle.bits.proofs.insert.Goals as goal

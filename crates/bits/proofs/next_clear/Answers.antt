@@ -1,5 +1,4 @@
 -- `next_clear` meets its contract: the first up from the one after the last, or, where all of those are in the set, the first up from 0. Assumes nothing.
-use borrow.Author.Rules.{rules}
 use native.Mathlib.Omega.{arith}
 use Rattle.bits.specs.Search.{next_up, next_round, next_none}
 use Rattle.bits.proofs.next_clear.Goals as goal

@@ -1,5 +1,4 @@
 -- `less` meets its contract. Assumes nothing.
-use borrow.Author.Rules.{rules}
 use Rattle.filled.specs.Filled.{width}
 use Rattle.filled.specs.Bits.{word_less, shl_one}
 use Rattle.filled.proofs.less.Goals as goal

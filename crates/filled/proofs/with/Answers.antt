@@ -1,5 +1,4 @@
 -- `with` meets its contract. Assumes nothing.
-use borrow.Author.Rules.{rules}
 use Rattle.filled.specs.Filled.{width}
 use Rattle.filled.specs.Bits.{word_with, shl_one}
 use Rattle.filled.proofs.with.Goals as goal

@@ -1,7 +1,6 @@
 -- `after` meets its contract. Assumes nothing.
 use native.Mathlib.Omega.{arith}
 use Rattle.lines.specs.Along.{after_is}
-use borrow.Author.Rules.{rules}
 use Rattle.lines.proofs.after.Goals as goal
 
 pub returns : goal.returns

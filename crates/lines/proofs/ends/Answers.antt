@@ -1,15 +1,9 @@
 -- `ends` meets its contract. The loop's invariant: each place passed that has no mark holds none. Assumes nothing.
-use Prim.Native.Nat.{ℕ, ◌<◌, ◌≤◌, ◌-◌}
-use mathlib.Core.Path.{◌≡◌, sym, ◌∙◌}
-use mathlib.Core.Logic.{⊎_elim}
-use lib.ListN.{get_or}
+use mathlib.Core.Path.{sym, ◌∙◌}
 use native.Mathlib.Omega.{arith}
-use borrow.Author.Rules.{rules}
 use borrow.Author.Count.{below_more}
 use Rattle.lists.specs.Tells.{tells_no, tells_eq}
 use Rattle.lines.specs.Test.{all_known, bad_bare}
-use Rattle.lists.specs.Sizes.{places}
-use Rattle.lists.specs.Lists.{none}
 use Rattle.lines.proofs.ends.Goals as goal
 use Rattle.lines.proofs.ends.Goals.{else-seen-p, then-seen-p+else-l-p}
 
@@ -21,11 +15,13 @@ returns-then-l-p c =
     tells_no λ z. bad_bare c.requires (omega arith) c.loop-p.p c.loop-p-test.true c.if-seen-p.true c.if-l-p.true z
 
 pub loop-p-preserved : goal.loop-p-preserved
-loop-p-preserved c =
-    (omega arith, below_more _ _ c.loop-p.invariant.1 (elim c.if-seen-p.branch [
-      then-seen-p+else-l-p w ↦ λ e. omega (arith, w.if-l-p.false)
+loop-p-preserved c = (
+  omega arith,
+  below_more _ _ c.loop-p.invariant.1 (elim c.if-seen-p.branch [
+    | then-seen-p+else-l-p w ↦ λ e. omega (arith, w.if-l-p.false)
     | else-seen-p w ↦ λ e. absurd (w.if-seen-p.false e)
-    ]))
+  ]),
+)
 
 pub returns : goal.returns
 returns c =

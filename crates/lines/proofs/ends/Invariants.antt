@@ -1,13 +1,7 @@
 -- `ends` meets its contract. The loop's invariant: each place passed that has no mark holds none. Assumes nothing.
 use Prim.Native.Nat.{ℕ, ◌<◌, ◌≤◌, ◌-◌}
-use mathlib.Core.Path.{◌≡◌, sym, ◌∙◌}
-use mathlib.Core.Logic.{⊎_elim}
+use mathlib.Core.Path.{◌≡◌}
 use lib.ListN.{get_or}
-use native.Mathlib.Omega.{arith}
-use borrow.Author.Rules.{rules}
-use borrow.Author.Count.{below_more}
-use Rattle.lists.specs.Tells.{tells_no, tells_eq}
-use Rattle.lines.specs.Test.{all_known, bad_bare}
 use Rattle.lists.specs.Sizes.{places}
 use Rattle.lists.specs.Lists.{none}
 use Rattle.lines.proofs.ends.Given as goal

@@ -1,6 +1,5 @@
 -- `first` meets its contract. What the line's cell holds is who is first. Assumes nothing.
 use Rattle.lines.specs.Arrays.{first_is}
-use borrow.Author.Rules.{rules}
 use Rattle.lines.proofs.first.Goals as goal
 
 pub returns : goal.returns

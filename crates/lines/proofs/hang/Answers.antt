@@ -1,6 +1,5 @@
 -- `hang` meets its contract: in a tidy array the cell that is written is that which `join` writes. Assumes nothing.
 use borrow.Author.Rules.{rules}
-use mathlib.Core.Logic.{⊎_elim}
 use mathlib.Core.Path.{◌≡◌, ◌∙◌}
 use Prim.Native.Nat.{◌+◌}
 use native.Mathlib.Omega.{arith}
@@ -15,9 +14,9 @@ returns-then-wide-ge-PLACES c = λ k h f. absurd (omega arith)
 
 pub bounds-l-at : goal.bounds-l-at
 bounds-l-at c = elim c.if-last-lt-PLACES.branch [
-      then-last-lt-PLACES w ↦ search rules
-    | else-last-lt-PLACES w ↦ search rules
-    ]
+  | then-last-lt-PLACES w ↦ search rules
+  | else-last-lt-PLACES w ↦ search rules
+]
 
 pub returns : goal.returns
 returns c = λ k g f.
@@ -25,7 +24,7 @@ returns c = λ k g f.
     let u = c.wide-last.ensures in
     let e : c.if-last-lt-PLACES.at ≡ last_cell (places + a.q) (line_of places a.l.now a.q) =
     elim c.if-last-lt-PLACES.branch [
-      then-last-lt-PLACES w ↦ let h = w.if-last-lt-PLACES.true in w.at-is ∙ u ∙ hang_some k c.requires (omega arith) (omega arith)
-    | else-last-lt-PLACES w ↦ let h = w.if-last-lt-PLACES.false in w.at-is ∙ hang_own k c.requires (omega arith) (omega arith)
+      | then-last-lt-PLACES w ↦ let h = w.if-last-lt-PLACES.true in w.at-is ∙ u ∙ hang_some k c.requires (omega arith) (omega arith)
+      | else-last-lt-PLACES w ↦ let h = w.if-last-lt-PLACES.false in w.at-is ∙ hang_own k c.requires (omega arith) (omega arith)
     ] in
     rw e (join_turned k c.requires (omega arith) g f)

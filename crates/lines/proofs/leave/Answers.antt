@@ -1,7 +1,6 @@
 -- `leave` meets its contract. p is cut out where it was found, and the line is without p already where it was not. Assumes nothing.
 use Rattle.lists.specs.Without.{without_none}
 use Rattle.lines.specs.Arrays.{turned_not}
-use borrow.Author.Rules.{rules}
 use Rattle.lines.proofs.leave.Goals as goal
 
 pub cut-requires : goal.cut-requires

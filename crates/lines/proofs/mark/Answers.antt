@@ -2,12 +2,9 @@
 use mathlib.Core.Path.{◌≡◌, refl, sym, ◌∙◌}
 use lib.ListN.{get_or}
 use native.Mathlib.Omega.{arith}
-use borrow.Author.Rules.{rules}
-use Rattle.lines.specs.Steps.{Scan, bare}
 use Rattle.lists.specs.Lists.{none}
 use Rattle.lists.specs.Tells.{tells_no, tells_eq}
 use Rattle.lines.specs.Test.{scan_start, scan_in, scan_step, bare_less, done_high, done_place, bad_high, bad_twice, bad_own, bad_last}
-use Rattle.lists.specs.Sizes.{places, line_count}
 use Rattle.lines.proofs.mark.Goals as goal
 
 pub loop-at-init : goal.loop-at-init

@@ -1,12 +1,6 @@
 -- `mark` meets its contract. The loop's invariant: the lines before q are good, line q is good as far as the cell, and the marks are of what was passed. The measure is the number of places with no mark. Assumes nothing.
-use mathlib.Core.Path.{◌≡◌, refl, sym, ◌∙◌}
-use lib.ListN.{get_or}
-use native.Mathlib.Omega.{arith}
-use borrow.Author.Rules.{rules}
+use mathlib.Core.Path.{◌≡◌}
 use Rattle.lines.specs.Steps.{Scan, bare}
-use Rattle.lists.specs.Lists.{none}
-use Rattle.lists.specs.Tells.{tells_no, tells_eq}
-use Rattle.lines.specs.Test.{scan_start, scan_in, scan_step, bare_less, done_high, done_place, bad_high, bad_twice, bad_own, bad_last}
 use Rattle.lists.specs.Sizes.{places, line_count}
 use Rattle.lines.proofs.mark.Given as goal
 

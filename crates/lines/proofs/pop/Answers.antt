@@ -2,7 +2,6 @@
 use native.Mathlib.Omega.{arith}
 use Rattle.lines.specs.Arrays.{first_is, turned_not}
 use Rattle.lines.specs.Cut.{front_behind, front_without, line_none}
-use borrow.Author.Rules.{rules}
 use Rattle.lines.proofs.pop.Goals as goal
 
 pub cut-requires : goal.cut-requires

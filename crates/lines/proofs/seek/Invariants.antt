@@ -1,10 +1,7 @@
 -- `seek` meets its contract. The loop's invariant: the cell stands in the line, and p was not met. The measure is what is left of the line. Assumes nothing.
 use lib.ListN.{length}
-use native.Mathlib.Omega.{arith}
-use borrow.Author.Rules.{rules}
 use Rattle.lines.specs.Lines.{walk}
 use Rattle.lines.specs.Steps.{Walked}
-use Rattle.lines.specs.Seek.{walked_start, walked_in, walked_hit, walked_on, walked_end, walked_less}
 use Rattle.lists.specs.Sizes.{places}
 use Rattle.lines.proofs.seek.Given as goal
 

@@ -1,13 +1,9 @@
 -- `survey` meets its contract. The loop's invariant: the first q lines are good, and the marks theirs. Assumes nothing.
-use Prim.Native.Nat.{◌≤◌, ◌-◌}
 use mathlib.Core.Path.{◌≡◌, refl}
 use native.Mathlib.Omega.{arith}
-use borrow.Author.Rules.{rules}
-use Rattle.lines.specs.Steps.{DoneUpTo}
 use Rattle.lists.specs.Tells.{tells_no}
 use Rattle.lines.specs.Test.{done_none}
-use borrow.Author.Tests.{not-true, not-false}
-use Rattle.lists.specs.Sizes.{places, line_count}
+use Rattle.lists.specs.Sizes.{line_count}
 use Rattle.lines.proofs.survey.Goals as goal
 
 pub loop-q-init : goal.loop-q-init

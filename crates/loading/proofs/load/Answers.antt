@@ -1,5 +1,4 @@
 -- `load` meets its contract. Assumes nothing.
-use borrow.Author.Rules.{rules}
 use Rattle.loading.proofs.load.Goals as goal
 
 pub returns : goal.returns

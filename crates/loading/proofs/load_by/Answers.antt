@@ -1,5 +1,4 @@
 -- `load_by` meets its contract. Assumes nothing.
-use borrow.Author.Rules.{rules}
 use mathlib.Core.Path.{sym, ◌∙◌}
 use Rattle.loading.specs.Loads.{bad_head, good_head}
 use Rattle.loading.proofs.load_by.Goals as goal

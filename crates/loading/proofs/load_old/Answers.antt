@@ -1,5 +1,4 @@
 -- `load_old` meets its contract. Assumes nothing.
-use borrow.Author.Rules.{rules}
 use Rattle.loading.proofs.load_old.Goals as goal
 
 pub returns : goal.returns

@@ -1,5 +1,4 @@
 -- `first` meets its contract. There are at most as many zeros as digits, so the numbers fit a byte.
-use borrow.Author.Rules.{rules}
 use native.Mathlib.Omega.{arith}
 use lib.Count.{trailing_le}
 use Rattle.rules.specs.Devices.{low_digits}

@@ -1,5 +1,4 @@
 -- `of_terminal` meets its contract.
-use borrow.Author.Rules.{rules}
 use borrow.Author.Tests.{lt-ltb, le-ltb}
 use native.Mathlib.Omega.{arith}
 use Rattle.rules.proofs.of_terminal.Goals as goal

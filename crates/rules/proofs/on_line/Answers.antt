@@ -1,5 +1,4 @@
 -- `on_line` meets its contract: each test is one of the rule's.
-use borrow.Author.Rules.{rules}
 use borrow.Author.Tests.{lt-ltb, le-ltb}
 use native.Mathlib.Omega.{arith}
 use Rattle.rules.proofs.on_line.Goals as goal

@@ -1,15 +1,10 @@
 -- `first_body` meets its contract. The loop's invariant: what was counted and who waits in the queues that are left is the whole.
-use borrow.Author.Rules.{rules}
-use Prim.Native.Nat.{◌≤◌, ◌<◌, ◌+◌, ◌*◌, ◌-◌}
-use mathlib.Core.Path.{◌≡◌}
+use Prim.Native.Nat.{◌<◌}
 use native.Mathlib.Omega.{arith}
-use lib.ListN.{length}
 use Rattle.lists.specs.Sizes.{places, line_count}
 use Rattle.lines.specs.Lines.{line_of}
 use Rattle.lines.specs.Passes.{line_short}
-use Rattle.saving.specs.Format.{joined}
-use Rattle.saving.specs.Queues.{queues_from, waiting_start, waiting_step, waiting_end}
-use Rattle.saving.specs.Written.{waiting_in}
+use Rattle.saving.specs.Queues.{waiting_start, waiting_step, waiting_end}
 use Rattle.saving.proofs.first_body.Goals as goal
 
 pub loop-q-init : goal.loop-q-init

@@ -1,7 +1,6 @@
 -- `keep` meets its contract: 7 for a buffer that is too short, else the image in front.
 use native.Mathlib.Omega.{arith}
 use Rattle.saving.specs.Saving.{save_stands, save_few, image_fits, image_size, save_7, save_room, save_0}
-use borrow.Author.Rules.{rules}
 use Rattle.saving.proofs.keep.Goals as goal
 
 pub write-n-requires : goal.write-n-requires

@@ -2,8 +2,7 @@
 use lib.ListN.{length}
 use native.Mathlib.Omega.{arith}
 use mathlib.Core.Path.{ap}
-use Rattle.lists.specs.Sizes.{places}
-use Rattle.lines.specs.Passes.{left, line_short, walk_end, walk_place, walk_on, Counting, count_start, count_room, count_more, count_end}
+use Rattle.lines.specs.Passes.{line_short, walk_end, walk_place, walk_on, count_start, count_room, count_more, count_end}
 use Rattle.saving.proofs.measure.Goals as goal
 
 pub first-p-requires : goal.first-p-requires

@@ -1,9 +1,7 @@
 -- `measure` meets its contract. The loop's invariant: what was counted and what is left is the line.
 use lib.ListN.{length}
-use native.Mathlib.Omega.{arith}
-use mathlib.Core.Path.{ap}
 use Rattle.lists.specs.Sizes.{places}
-use Rattle.lines.specs.Passes.{left, line_short, walk_end, walk_place, walk_on, Counting, count_start, count_room, count_more, count_end}
+use Rattle.lines.specs.Passes.{left, Counting}
 use Rattle.saving.proofs.measure.Given as goal
 
 abbrev pub invariant-loop-p : goal.invariant-loop-p

@@ -1,11 +1,10 @@
 -- `put` meets its contract. The loop's invariant: the buffer is as it was, but for the first i bytes.
-use Prim.Native.Nat.{◌+◌, ◌-◌, ◌≤◌}
-use borrow.Author.Rules.{rules}
+use Prim.Native.Nat.{◌+◌}
 use mathlib.Core.Path.{◌≡◌, refl, ap, ◌∙◌}
 use native.Mathlib.Omega.{arith}
 use native.Mathlib.Numerals.{add-one}
 use lib.ListN.{length, length-set}
-use lib.Seq.{paste, paste-zero, paste-suc}
+use lib.Seq.{paste-zero, paste-suc}
 use Rattle.lists.specs.Laid.{laid_pasted}
 use Rattle.saving.proofs.put.Goals as goal
 

@@ -1,9 +1,7 @@
 -- `put_bodies` meets its contract. The loop's invariant: the bodies of the places that are left are left to write.
 use borrow.Author.Rules.{rules}
-use Prim.Native.Nat.{◌≤◌, ◌-◌}
-use Rattle.rules.specs.Model.{places}
 use Rattle.saving.specs.Parts.{held}
-use Rattle.saving.specs.Places.{Embodies, bodies_start, bodies_room, bodies_more, bodies_length_is, bodies_end}
+use Rattle.saving.specs.Places.{bodies_start, bodies_room, bodies_more, bodies_length_is, bodies_end}
 use Rattle.saving.proofs.put_bodies.Goals as goal
 
 pub loop-p-init : goal.loop-p-init

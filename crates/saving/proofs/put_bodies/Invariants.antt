@@ -1,9 +1,8 @@
 -- `put_bodies` meets its contract. The loop's invariant: the bodies of the places that are left are left to write.
-use borrow.Author.Rules.{rules}
 use Prim.Native.Nat.{◌≤◌, ◌-◌}
 use Rattle.rules.specs.Model.{places}
 use Rattle.saving.specs.Parts.{held}
-use Rattle.saving.specs.Places.{Embodies, bodies_start, bodies_room, bodies_more, bodies_length_is, bodies_end}
+use Rattle.saving.specs.Places.{Embodies}
 use Rattle.saving.proofs.put_bodies.Given as goal
 
 abbrev pub invariant-loop-p : goal.invariant-loop-p

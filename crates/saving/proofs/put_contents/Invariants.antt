@@ -1,9 +1,8 @@
 -- `put_contents` meets its contract. The loop's invariant: the entries of the places that are left are left to write.
-use borrow.Author.Rules.{rules}
 use Prim.Native.Nat.{◌≤◌, ◌-◌}
 use Rattle.rules.specs.Model.{places}
 use Rattle.saving.specs.Parts.{held}
-use Rattle.saving.specs.Places.{Lists, contents_start, contents_more, contents_length_is, contents_end, enters}
+use Rattle.saving.specs.Places.{Lists}
 use Rattle.saving.proofs.put_contents.Given as goal
 
 abbrev pub invariant-loop-p : goal.invariant-loop-p

@@ -1,5 +1,4 @@
 -- `put_entry` meets its contract: nothing for an empty place; else an entry, and the next body starts behind this one.
-use borrow.Author.Rules.{rules}
 use Rattle.saving.specs.Entries.{entry_none, entry_room, entry_whole}
 use Rattle.saving.proofs.put_entry.Goals as goal
 

@@ -1,5 +1,4 @@
 -- `put_inbox` meets its contract: how many places there are, behind it the parent, and behind that the places.
-use borrow.Author.Rules.{rules}
 use Rattle.lists.specs.Sizes.{places}
 use Rattle.lines.specs.Lines.{line_of}
 use Rattle.saving.specs.Entries.{parent_fits, places_fit, inbox_whole, inbox_same_length}

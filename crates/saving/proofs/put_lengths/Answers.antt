@@ -1,6 +1,5 @@
 -- `put_lengths` meets its contract. The loop's invariant: the lengths of the queues that are left are left to write.
 use borrow.Author.Rules.{rules}
-use Prim.Native.Nat.{◌≤◌, ◌-◌}
 use mathlib.Core.Path.{refl}
 use mathlib.Core.List.{[], ◌∷◌}
 use native.Mathlib.Omega.{arith}
@@ -9,7 +8,7 @@ use Rattle.lists.specs.Laid.{laid_one}
 use Rattle.lists.specs.Sizes.{places}
 use Rattle.lines.specs.Lines.{line_of}
 use Rattle.saving.specs.Format.{sizes}
-use Rattle.saving.specs.Queues.{Queueing, queueing_start, queueing_room, queueing_more, queueing_length, queueing_end}
+use Rattle.saving.specs.Queues.{queueing_start, queueing_room, queueing_more, queueing_length, queueing_end}
 use Rattle.saving.proofs.put_lengths.Goals as goal
 
 pub loop-q-init : goal.loop-q-init

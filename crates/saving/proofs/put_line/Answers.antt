@@ -3,9 +3,8 @@ use lib.ListN.{length}
 use borrow.Author.Rules.{rules}
 use mathlib.Core.Path.{ap}
 use native.Mathlib.Omega.{arith}
-use Rattle.lists.specs.Sizes.{places}
-use Rattle.lines.specs.Passes.{left, walk_end, walk_place, walk_on}
-use Rattle.saving.specs.Lining.{Lining, lining_start, lining_room, lining_more, lining_length, lining_end}
+use Rattle.lines.specs.Passes.{walk_end, walk_place, walk_on}
+use Rattle.saving.specs.Lining.{lining_start, lining_room, lining_more, lining_length, lining_end}
 use Rattle.saving.proofs.put_line.Goals as goal
 
 pub first-p-requires : goal.first-p-requires

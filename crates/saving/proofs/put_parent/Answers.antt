@@ -1,5 +1,4 @@
 -- `put_parent` meets its contract: one byte, or none.
-use borrow.Author.Rules.{rules}
 use Rattle.saving.specs.Entries.{parent_none, parent_room, parent_one}
 use Rattle.saving.proofs.put_parent.Goals as goal
 

@@ -1,11 +1,9 @@
 -- `put_queues` meets its contract. The loop's invariant: the places of the queues that are left are left to write.
-use borrow.Author.Rules.{rules}
 use Prim.Native.Nat.{◌≤◌, ◌-◌}
-use mathlib.Core.Path.{refl}
 use Rattle.lists.specs.Sizes.{places}
 use Rattle.lines.specs.Lines.{line_of}
 use Rattle.saving.specs.Format.{joined}
-use Rattle.saving.specs.Queues.{Queueing, queueing_start, queueing_room, queueing_more, queueing_length, queueing_end}
+use Rattle.saving.specs.Queues.{Queueing}
 use Rattle.saving.proofs.put_queues.Given as goal
 
 abbrev pub invariant-loop-q : goal.invariant-loop-q

@@ -1,5 +1,4 @@
 -- `put_thread` meets its contract: the call, and behind it the answer.
-use borrow.Author.Rules.{rules}
 use Rattle.lists.specs.Laid.{wrote_both}
 use Rattle.saving.proofs.put_thread.Goals as goal
 

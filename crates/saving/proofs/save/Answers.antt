@@ -1,6 +1,4 @@
 -- `save` meets its contract: 14 for a state that is not consistent, else what `keep` says of one that was tested.
-use borrow.Author.Rules.{rules}
-use borrow.Author.Tests.{not-true, not-false}
 use Rattle.saving.specs.Save.{save_length}
 use Rattle.saving.specs.Saving.{save_14}
 use Rattle.saving.proofs.save.Goals as goal

@@ -1,5 +1,4 @@
 -- `six` meets its contract, byte by byte.
-use borrow.Author.Rules.{rules}
 use Rattle.saving.proofs.six.Goals as goal
 
 pub returns : goal.returns

@@ -1,6 +1,4 @@
 -- `choose` meets its contract: the ways are those of the choice.
-use borrow.Author.Rules.{rules}
-use borrow.Author.Tests.{not-true, not-false}
 use native.Mathlib.Omega.{arith}
 use Rattle.table.specs.Cells.{stands_at}
 use Rattle.table.specs.Choose.{choose_run, choose_halt, choose_stuck, choose_wait}

@@ -1,5 +1,4 @@
 -- `clean` meets its contract: four stores, one after the other.
-use borrow.Author.Rules.{rules}
 use Rattle.table.specs.Clean.{cleaned}
 use Rattle.table.proofs.clean.Goals as goal
 

@@ -1,10 +1,8 @@
 -- `clear` meets its contract. The loop's invariant: the places passed are clean.
-use Prim.Native.Nat.{◌≤◌, ◌-◌}
 use mathlib.Core.Path.{◌≡◌}
 use native.Mathlib.Omega.{arith}
-use borrow.Author.Rules.{rules}
 use Rattle.rules.specs.Model.{places}
-use Rattle.table.specs.Clean.{Emptied, emptied_none, emptied_more}
+use Rattle.table.specs.Clean.{emptied_none, emptied_more}
 use Rattle.table.proofs.clear.Goals as goal
 
 pub loop-p-init : goal.loop-p-init

@@ -1,10 +1,7 @@
 -- `clear` meets its contract. The loop's invariant: the places passed are clean.
 use Prim.Native.Nat.{◌≤◌, ◌-◌}
-use mathlib.Core.Path.{◌≡◌}
-use native.Mathlib.Omega.{arith}
-use borrow.Author.Rules.{rules}
 use Rattle.rules.specs.Model.{places}
-use Rattle.table.specs.Clean.{Emptied, emptied_none, emptied_more}
+use Rattle.table.specs.Clean.{Emptied}
 use Rattle.table.proofs.clear.Given as goal
 
 abbrev pub invariant-loop-p : goal.invariant-loop-p

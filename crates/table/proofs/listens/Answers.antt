@@ -1,5 +1,4 @@
 -- `listens` meets its contract: the two ways are those of `hears`.
-use borrow.Author.Rules.{rules}
 use borrow.Author.Tests.{eq-eqb, ne_eqb}
 use lib.ListN.{get_or}
 use Rattle.table.specs.Cells.{cell}

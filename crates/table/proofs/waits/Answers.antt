@@ -1,10 +1,7 @@
 -- `waits` meets its contract. The loop's invariant: nobody stands in the lines passed.
-use borrow.Author.Rules.{rules}
 use native.Mathlib.Omega.{arith}
-use Prim.Native.Nat.{◌-◌}
-use Rattle.lists.specs.Sizes.{queue_count}
-use mathlib.Core.Path.{sym, ◌∙◌}
-use Rattle.table.specs.Choose.{NoneUpTo, none_more, waits_yes, waits_no}
+use mathlib.Core.Path.{◌∙◌}
+use Rattle.table.specs.Choose.{none_more, waits_yes, waits_no}
 use Rattle.table.proofs.waits.Goals as goal
 
 pub loop-q-init : goal.loop-q-init

@@ -1,5 +1,4 @@
 -- `act` meets its contract: each arm is the event's core.
-use borrow.Author.Rules.{rules}
 use Rattle.threads.specs.Ran.{same_event}
 use Rattle.threads.proofs.act.Goals as goal
 

@@ -1,5 +1,4 @@
 -- `run` meets its contract: a refused event leaves all as it was; after another, the front of ready is started.
-use borrow.Author.Rules.{rules}
 use native.Mathlib.Omega.{arith}
 use Rattle.threads.specs.Ran.{ran_not, ran}
 use Rattle.threads.proofs.run.Goals as goal

@@ -1,5 +1,4 @@
 -- `carry_over` meets its contract: what the two steps have made of the arrays is what the rule says.
-use borrow.Author.Rules.{rules}
 use Rattle.updating.specs.CarriesOver.{starts, carries_over}
 use Rattle.updating.proofs.carry_over.Goals as goal
 

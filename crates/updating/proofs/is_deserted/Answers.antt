@@ -1,5 +1,4 @@
 -- `is_deserted` meets its contract: it goes by the cases of the test.
-use borrow.Author.Rules.{rules}
 use native.Mathlib.Omega.{arith}
 use Rattle.updating.specs.Deserted.{not_receiving, from_any, from_named}
 use Rattle.updating.proofs.is_deserted.Goals as goal

@@ -1,5 +1,4 @@
 -- `update` meets its contract: load's refusals, or what was loaded, carried over.
-use borrow.Author.Rules.{rules}
 use Rattle.loading.specs.Accepts.{accepted_of}
 use Rattle.updating.specs.Updates.{update_refused, update_done}
 use Rattle.updating.proofs.update.Goals as goal

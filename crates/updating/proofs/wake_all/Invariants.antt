@@ -1,13 +1,10 @@
 -- `wake_all` meets its contract: the places from here on are left to do, and who was dead at the beginning is so still.
-use borrow.Author.Rules.{rules}
 use mathlib.Core.List.{[]}
-use native.Mathlib.Omega.{arith}
 use Prim.Native.Nat.{◌-◌}
 use Rattle.rules.specs.Model.{places}
 use Rattle.rules.specs.Rules.{deserted}
 use Rattle.table.specs.Cells.{model_of}
-use Rattle.life.specs.LetGo.{Letting, let_start, let_end}
-use Rattle.updating.specs.Deserted.{wakes_again}
+use Rattle.life.specs.LetGo.{Letting}
 use Rattle.updating.proofs.wake_all.Given as goal
 
 abbrev pub invariant-loop-p : goal.invariant-loop-p

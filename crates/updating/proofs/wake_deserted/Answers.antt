@@ -1,6 +1,4 @@
 -- `wake_deserted` meets its contract: who listens for the dead is told its number, and any other stays as it is.
-use borrow.Author.Rules.{rules}
-use borrow.Author.Tests.{not-true, not-false}
 use Rattle.updating.specs.Deserted.{wakes_not, wakes_loose, wakes_yes}
 use Rattle.updating.proofs.wake_deserted.Goals as goal
 

@@ -1,5 +1,4 @@
 -- `dispatch` meets its contract: somebody runs, nobody is ready, or the front of ready runs.
-use borrow.Author.Rules.{rules}
 use native.Mathlib.Omega.{arith}
 use Rattle.verbs.specs.Verbs.{somebody, dispatch_busy, dispatch_none, dispatch_some}
 use Rattle.verbs.proofs.dispatch.Goals as goal

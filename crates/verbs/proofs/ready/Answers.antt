@@ -1,5 +1,4 @@
 -- `ready` meets its contract: a store and a join are the rule's.
-use borrow.Author.Rules.{rules}
 use native.Mathlib.Omega.{arith}
 use Rattle.verbs.specs.Steps.{then, stood, joined}
 use Rattle.verbs.proofs.ready.Goals as goal

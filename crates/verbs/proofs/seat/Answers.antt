@@ -1,5 +1,4 @@
 -- `seat` meets its contract: a number, a parent and a wake make the newcomer.
-use borrow.Author.Rules.{rules}
 use Rattle.verbs.specs.Seats.{named, seats}
 use Rattle.verbs.proofs.seat.Goals as goal
 

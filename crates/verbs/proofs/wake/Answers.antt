@@ -1,5 +1,4 @@
 -- `wake` meets its contract: an answer, and then as `ready`.
-use borrow.Author.Rules.{rules}
 use Rattle.verbs.specs.Steps.{heard}
 use Rattle.verbs.specs.Verbs.{woke}
 use Rattle.verbs.proofs.wake.Goals as goal

@@ -4,7 +4,6 @@ use Prim.Native.Nat.{ℕ, ◌+◌, ◌*◌}
 use native.Mathlib.Omega.{arith}
 use Rattle.lists.specs.Bytes.{two_at}
 use Rattle.saving.specs.Format.{entry_length}
-use borrow.Author.Rules.{rules}
 use Rattle.image.proofs.look.body.Goals as goal
 
 pub returns : goal.returns

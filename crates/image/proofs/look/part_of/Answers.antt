@@ -2,7 +2,6 @@
 use mathlib.Core.Path.{◌∙◌}
 use native.Mathlib.Omega.{arith}
 use Rattle.image.specs.Locating.{locates_unread, locates_missing, locates_spotted}
-use borrow.Author.Rules.{rules}
 use Rattle.image.proofs.look.part_of.Goals as goal
 
 pub returns-then-code-ne-DONE : goal.returns-then-code-ne-DONE

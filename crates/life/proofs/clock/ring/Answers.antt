@@ -1,6 +1,4 @@
 -- `ring` meets its contract: nobody waits, or the first leaves the queue and is woken.
-use borrow.Author.Rules.{rules}
-use native.Mathlib.Omega.{arith}
 use Rattle.verbs.specs.Verbs.{popped, somebody}
 use Rattle.life.specs.Drain.{first_none, first_some}
 use Rattle.life.specs.Clock.{rings, rings_spare}

@@ -1,11 +1,6 @@
 -- `ring_all` meets its contract: what is left of the clock queue is left to do.
 use native.Mathlib.Omega.{arith}
-use lib.ListN.{length}
-use borrow.Author.Tests.{not-true, not-false}
-use Rattle.lines.specs.Lines.{line_of}
-use Rattle.rules.specs.Model.{places, clock}
-use Rattle.life.specs.Drain.{Draining, drain_start, drain_again, drain_less, drain_end}
-use Rattle.life.specs.Clock.{rings}
+use Rattle.life.specs.Drain.{drain_start, drain_again, drain_less, drain_end}
 use Rattle.life.proofs.clock.ring_all.Goals as goal
 
 pub loop-init : goal.loop-init

@@ -1,5 +1,4 @@
 -- `slice_end` meets its contract: nothing changes with nobody running; else the caller is ready, and nobody runs.
-use borrow.Author.Rules.{rules}
 use Rattle.verbs.specs.Caller.{caller_place, caller_loose}
 use Rattle.life.specs.Clock.{slice_idle, slice_busy}
 use Rattle.life.proofs.clock.slice_end.Goals as goal

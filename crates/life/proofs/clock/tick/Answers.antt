@@ -1,5 +1,4 @@
 -- `tick` meets its contract: all who waited are woken, and the desk stays.
-use borrow.Author.Rules.{rules}
 use Rattle.life.specs.Clock.{ticks}
 use Rattle.life.proofs.clock.tick.Goals as goal
 

@@ -1,5 +1,4 @@
 -- `wait_clock` meets its contract: refused with nobody running; else the caller stands and joins, and nobody runs.
-use borrow.Author.Rules.{rules}
 use mathlib.Core.Path.{refl}
 use native.Mathlib.Omega.{arith}
 use Rattle.rules.specs.Rules.{wait_clock}

@@ -1,5 +1,4 @@
 -- `bar` meets its contract: an empty place adds nothing, and another its two numbers.
-use borrow.Author.Rules.{rules}
 use Rattle.life.specs.Gather.{bar_none, bar_both}
 use Rattle.life.proofs.create.bar.Goals as goal
 

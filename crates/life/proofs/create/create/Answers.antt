@@ -1,5 +1,4 @@
 -- `create` meets its contract: refused where all places are filled; else the lowest empty one takes the newcomer.
-use borrow.Author.Rules.{rules}
 use Rattle.verbs.specs.Address.{seated}
 use Rattle.life.specs.Create.{create_6, seat_place, seat_loose, create_0}
 use Rattle.life.proofs.create.create.Goals as goal

@@ -1,11 +1,7 @@
 -- `gather` meets its contract: the numbers that the places below p bar are in the set.
-use borrow.Author.Rules.{rules}
 use mathlib.Core.Path.{◌≡◌}
-use Prim.Native.Nat.{◌-◌, ◌≤◌}
 use native.Mathlib.Omega.{arith}
 use Rattle.rules.specs.Model.{places}
-use Rattle.bits.specs.Set.{Adds}
-use Rattle.life.specs.Number.{bars_from}
 use Rattle.life.specs.Gather.{gather_none, gather_more}
 use Rattle.life.proofs.create.gather.Goals as goal
 

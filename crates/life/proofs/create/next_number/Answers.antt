@@ -1,5 +1,4 @@
 -- `next_number` meets its contract: the set has the barred numbers and no others.
-use borrow.Author.Rules.{rules}
 use mathlib.Core.Bool.{false}
 use Rattle.life.specs.Number.{bars}
 use Rattle.life.proofs.create.next_number.Goals as goal

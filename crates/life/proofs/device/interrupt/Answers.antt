@@ -1,5 +1,4 @@
 -- `interrupt` meets its contract: nothing is pending, or the first in the queue of the first pending index is served.
-use borrow.Author.Rules.{rules}
 use native.Mathlib.Omega.{arith}
 use Rattle.life.specs.Device.{interrupt_none, pending_low, interrupt_served}
 use Rattle.life.proofs.device.interrupt.Goals as goal

@@ -1,5 +1,4 @@
 -- `wait_device` meets its contract: refused with nobody running, or where there is no such device; else the caller stands and joins, and nobody runs.
-use borrow.Author.Rules.{rules}
 use mathlib.Core.Path.{refl}
 use native.Mathlib.Omega.{arith}
 use Rattle.rules.specs.Rules.{wait_device}

@@ -1,5 +1,4 @@
 -- `end` meets its contract: refused, or the thread ends with all that it started.
-use borrow.Author.Rules.{rules}
 use Rattle.life.specs.Family.{end_2, end_4, end_tallied, end_may, end_0}
 use Rattle.life.proofs.end.end.Goals as goal
 

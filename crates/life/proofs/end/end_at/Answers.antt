@@ -20,12 +20,11 @@ wake_listeners-requires c =
     (let_lies c.requires c.hand_all_back.ensures c.let_go.ensures, end_low c.requires)
 
 pub out_of_line-e-requires : goal.out_of_line-e-requires
-out_of_line-e-requires c =
-    (
-      c.wake_listeners.ensures.whole.lines,
-      end_place c.requires,
-      end_served c.requires c.hand_all_back.ensures c.let_go.ensures c.wake_listeners.ensures,
-    )
+out_of_line-e-requires c = (
+  c.wake_listeners.ensures.whole.lines,
+  end_place c.requires,
+  end_served c.requires c.hand_all_back.ensures c.let_go.ensures c.wake_listeners.ensures,
+)
 
 pub clean-requires : goal.clean-requires
 clean-requires c =

@@ -1,5 +1,4 @@
 -- `give_back` meets its contract: the word that is read is its own.
-use borrow.Author.Rules.{rules}
 use Rattle.life.specs.HandBack.{backed}
 use Rattle.life.proofs.end.give_back.Goals as goal
 

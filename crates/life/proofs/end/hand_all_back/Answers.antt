@@ -1,10 +1,5 @@
 -- `hand_all_back` meets its contract: what is left of the inbox is left to do.
-use lib.ListN.{length}
-use borrow.Author.Tests.{not-true, not-false}
-use Rattle.lines.specs.Lines.{line_of}
-use Rattle.rules.specs.Model.{places}
-use Rattle.life.specs.Drain.{Draining, drain_start, drain_again, drain_less, drain_end}
-use Rattle.life.specs.HandBack.{backs}
+use Rattle.life.specs.Drain.{drain_start, drain_again, drain_less, drain_end}
 use Rattle.life.proofs.end.hand_all_back.Goals as goal
 
 pub loop-n-init : goal.loop-n-init

@@ -1,5 +1,4 @@
 -- `hand_back` meets its contract: the inbox is empty, or the first leaves it and has its own word back.
-use borrow.Author.Rules.{rules}
 use Rattle.verbs.specs.Verbs.{popped, somebody}
 use Rattle.life.specs.Drain.{first_none, first_some}
 use Rattle.life.specs.HandBack.{backs, backs_spare}

@@ -1,11 +1,7 @@
 -- `let_go` meets its contract: the places from here on are left to do.
-use borrow.Author.Rules.{rules}
 use native.Mathlib.Omega.{arith}
-use Prim.Native.Nat.{◌-◌}
-use Rattle.rules.specs.Model.{places}
-use Rattle.rules.specs.Rules.{awaiting}
 use Rattle.order.specs.HandBack.{awaiting_fair}
-use Rattle.life.specs.LetGo.{Letting, let_start, let_again, let_end}
+use Rattle.life.specs.LetGo.{let_start, let_again, let_end}
 use Rattle.life.proofs.end.let_go.Goals as goal
 
 pub loop-p-init : goal.loop-p-init

@@ -1,7 +1,5 @@
 -- `let_one` meets its contract: who does not await the reply stays as it is, who does has its own word back.
-use borrow.Author.Rules.{rules}
 use mathlib.Core.Path.{refl, sym, ◌∙◌}
-use borrow.Author.Tests.{not-true, not-false}
 use Rattle.rules.specs.Rules.{awaiting}
 use Rattle.order.specs.HandBack.{awaiting_fair}
 use Rattle.life.specs.LetGo.{let_not, let_loose, let_yes}

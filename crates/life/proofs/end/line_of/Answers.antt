@@ -1,5 +1,4 @@
 -- `line_of` meets its contract: the standing says which line it is.
-use borrow.Author.Rules.{rules}
 use native.Mathlib.Omega.{arith}
 use Rattle.life.specs.Leave.{sent_low, waits_low, line_ready, line_sending, line_waiting, line_device, line_none}
 use Rattle.life.proofs.end.line_of.Goals as goal

@@ -1,5 +1,4 @@
 -- `out_of_line` meets its contract: it runs, or stands in no line, or leaves the one where it stands.
-use borrow.Author.Rules.{rules}
 use mathlib.Core.Path.{sym, ◌∙◌}
 use Rattle.life.specs.Leave.{leaves_off, leaves_not, leaves_low, leaves_line}
 use Rattle.life.proofs.end.out_of_line.Goals as goal

@@ -1,5 +1,4 @@
 -- `wake_listener` meets its contract: who does not receive, or receives from another, stays as it is, and who receives from n is told.
-use borrow.Author.Rules.{rules}
 use mathlib.Core.Path.{refl}
 use native.Mathlib.Omega.{arith}
 use Rattle.rules.specs.Rules.{listening}

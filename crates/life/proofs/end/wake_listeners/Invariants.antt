@@ -1,11 +1,8 @@
 -- `wake_listeners` meets its contract: the places from here on are left to do.
-use borrow.Author.Rules.{rules}
-use native.Mathlib.Omega.{arith}
 use Prim.Native.Nat.{◌-◌}
 use Rattle.rules.specs.Model.{places}
 use Rattle.rules.specs.Rules.{listening}
-use Rattle.order.specs.HandBack.{listening_fair}
-use Rattle.life.specs.LetGo.{Letting, let_start, let_again, let_end}
+use Rattle.life.specs.LetGo.{Letting}
 use Rattle.life.proofs.end.wake_listeners.Given as goal
 
 abbrev pub invariant-loop-p : goal.invariant-loop-p

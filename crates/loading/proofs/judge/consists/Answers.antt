@@ -1,5 +1,4 @@
 -- `consists` meets its contract: the test is made of the arrays and the desk. Assumes nothing.
-use borrow.Author.Rules.{rules}
 use Rattle.loading.proofs.judge.consists.Goals as goal
 
 pub returns : goal.returns

@@ -1,8 +1,6 @@
 -- `equal` meets its contract: the first i bytes are the same. Assumes nothing.
 use mathlib.Core.Path.{◌≡◌, refl}
-use Prim.Native.Nat.{◌-◌, ◌≤◌}
 use native.Mathlib.Omega.{arith}
-use lib.ListN.{take}
 use borrow.Author.Rules.{rules}
 use Rattle.lists.specs.Tells.{tells_yes, tells_no}
 use Rattle.loading.specs.Judges.{equal_size, equal_not, equal_more, equal_all}

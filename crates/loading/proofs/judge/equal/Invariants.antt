@@ -1,11 +1,7 @@
 -- `equal` meets its contract: the first i bytes are the same. Assumes nothing.
-use mathlib.Core.Path.{◌≡◌, refl}
+use mathlib.Core.Path.{◌≡◌}
 use Prim.Native.Nat.{◌-◌, ◌≤◌}
-use native.Mathlib.Omega.{arith}
 use lib.ListN.{take}
-use borrow.Author.Rules.{rules}
-use Rattle.lists.specs.Tells.{tells_yes, tells_no}
-use Rattle.loading.specs.Judges.{equal_size, equal_not, equal_more, equal_all}
 use Rattle.loading.proofs.judge.equal.Given as goal
 
 abbrev pub invariant-loop-i : goal.invariant-loop-i

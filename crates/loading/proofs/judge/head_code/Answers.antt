@@ -8,7 +8,6 @@ use Rattle.saving.specs.Format.{total_at, head_length}
 use Rattle.saving.specs.declared.format.Row.{Row}
 use Rattle.loading.specs.Loads.{row_at}
 use Rattle.loading.specs.Judges.{head_short, head_unknown, head_cut, head_wrong, head_right}
-use borrow.Author.Rules.{rules}
 use Rattle.loading.proofs.judge.head_code.Goals as goal
 
 pub returns-then-image-lt-SHORTEST_HEAD : goal.returns-then-image-lt-SHORTEST_HEAD

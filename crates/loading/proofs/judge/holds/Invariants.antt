@@ -1,10 +1,7 @@
 -- `holds` meets its contract: the queues behind the row's are empty as far as the loop has come. Assumes nothing.
-use borrow.Author.Rules.{rules}
 use Prim.Native.Nat.{◌-◌, ◌≤◌}
-use native.Mathlib.Omega.{arith}
 use Rattle.lists.specs.Sizes.{queue_count}
-use Rattle.lists.specs.Tells.{tells_yes, tells_no}
-use Rattle.loading.specs.Judges.{Bare, bare_more, bare_not}
+use Rattle.loading.specs.Judges.{Bare}
 use Rattle.loading.proofs.judge.holds.Given as goal
 
 abbrev pub invariant-loop-q : goal.invariant-loop-q

@@ -1,11 +1,9 @@
 -- `judge` meets its contract: a candidate that is not consistent, that the edition cannot hold, or whose image is another, is the reading of no image. Assumes
 -- nothing.
 use mathlib.Core.Path.{refl}
-use borrow.Author.Tests.{not-true, not-false}
 use Rattle.saving.specs.Editions.{known_few, known_places}
 use Rattle.loading.specs.Loads.{foreign, accepted}
 use Rattle.loading.specs.Judges.{row_known, old_consists, bare_holds, foreign_not, foreign_full, foreign_other}
-use borrow.Author.Rules.{rules}
 use Rattle.loading.proofs.judge.judge.Goals as goal
 
 pub candidate-s-requires : goal.candidate-s-requires

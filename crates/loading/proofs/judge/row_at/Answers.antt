@@ -1,7 +1,6 @@
 -- `row_at` meets its contract. Assumes nothing.
 use mathlib.Core.Path.{ap, ◌∙◌}
 use Rattle.saving.specs.Format.{row_of}
-use borrow.Author.Rules.{rules}
 use Rattle.loading.proofs.judge.row_at.Goals as goal
 
 pub returns : goal.returns

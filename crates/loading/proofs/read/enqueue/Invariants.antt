@@ -1,10 +1,6 @@
 -- `enqueue` meets its contract: of the places the first i have joined. Assumes nothing.
-use mathlib.Core.Path.{◌≡◌}
 use Prim.Native.Nat.{◌-◌, ◌≤◌}
-use native.Mathlib.Omega.{arith}
 use Rattle.loading.specs.Reading.{Joined}
-use Rattle.loading.specs.Joins.{joined_none, joined_more}
-use borrow.Author.Rules.{rules}
 use Rattle.loading.proofs.read.enqueue.Given as goal
 
 abbrev pub invariant-loop-i : goal.invariant-loop-i

@@ -4,7 +4,6 @@ use Prim.Native.Nat.{ℕ, ◌+◌, ◌*◌}
 use native.Mathlib.Omega.{arith}
 use Rattle.saving.specs.Format.{entry_length}
 use Rattle.loading.specs.Enters.{entered_no, entered_one}
-use borrow.Author.Rules.{rules}
 use Rattle.loading.proofs.read.enter.Goals as goal
 
 pub returns-then-p-row : goal.returns-then-p-row

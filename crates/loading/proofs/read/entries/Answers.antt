@@ -1,9 +1,7 @@
 -- `entries` meets its contract: the first i entries have been read. Assumes nothing.
 use mathlib.Core.Path.{◌≡◌}
-use Prim.Native.Nat.{◌-◌, ◌≤◌}
 use native.Mathlib.Omega.{arith}
 use borrow.Author.Rules.{rules}
-use Rattle.loading.specs.Reading.{Entered}
 use Rattle.loading.specs.Enters.{entered_none, entered_more}
 use Rattle.loading.proofs.read.entries.Goals as goal
 

@@ -1,5 +1,4 @@
 -- `parent` meets its contract: a byte of the body, or nobody. Assumes nothing.
-use borrow.Author.Rules.{rules}
 use Rattle.loading.proofs.read.parent.Goals as goal
 
 pub returns-then-row : goal.returns-then-row

@@ -1,11 +1,9 @@
 -- `queues` meets its contract: the places of the queues before line q have joined. Assumes nothing.
-use borrow.Author.Rules.{rules}
 use mathlib.Core.Path.{◌≡◌, ap, ◌∙◌}
-use Prim.Native.Nat.{ℕ, ◌+◌, ◌*◌, ◌-◌, ◌≤◌}
+use Prim.Native.Nat.{ℕ, ◌+◌, ◌*◌}
 use native.Mathlib.Omega.{arith}
 use lib.ListN.{get_or}
 use Rattle.saving.specs.Format.{lengths_at, entry_length}
-use Rattle.loading.specs.Reading.{QueuesUpto}
 use Rattle.loading.specs.Enters.{queues_none, queues_more, queues_read}
 use Rattle.loading.proofs.read.queues.Goals as goal
 

@@ -1,5 +1,4 @@
 -- `seat` meets its contract: eight stores, of what the bytes say. Assumes nothing.
-use borrow.Author.Rules.{rules}
 use Rattle.loading.specs.Fills.{seated}
 use Rattle.loading.proofs.read.seat.Goals as goal
 

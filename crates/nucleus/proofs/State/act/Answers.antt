@@ -1,5 +1,4 @@
 -- `State::act` meets its contract: what the cores have done is what the rules say.
-use borrow.Author.Rules.{rules}
 use Rattle.table.specs.Choose.{legible}
 use Rattle.nucleus.specs.Answers.{meets}
 use Rattle.nucleus.proofs.State.act.Goals as goal

@@ -1,7 +1,5 @@
 -- `State::choice` meets its contract.
-use borrow.Author.Rules.{rules}
 use mathlib.Core.Path.{refl}
-use borrow.Author.Tests.{not-true, not-false}
 use Rattle.nucleus.specs.View.{held, refused}
 use Rattle.nucleus.proofs.State.choice.Goals as goal
 

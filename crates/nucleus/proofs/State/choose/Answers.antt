@@ -1,5 +1,4 @@
 -- `State::choose` meets its contract: the choice is that of the arrays.
-use borrow.Author.Rules.{rules}
 use mathlib.Core.Path.{ap, ◌∙◌}
 use Rattle.rules.specs.Rules.{choice}
 use Rattle.table.specs.Cells.{shown}

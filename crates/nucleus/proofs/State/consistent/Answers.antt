@@ -1,5 +1,4 @@
 -- `State::consistent` meets its contract: the test is made of the arrays and the desk.
-use borrow.Author.Rules.{rules}
 use Rattle.nucleus.proofs.State.consistent.Goals as goal
 
 pub returns : goal.returns

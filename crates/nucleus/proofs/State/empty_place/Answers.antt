@@ -1,6 +1,4 @@
 -- `State::empty_place` meets its contract: the lowest zero of the filled set.
-use borrow.Author.Rules.{rules}
-use borrow.Author.Tests.{not-true, not-false}
 use mathlib.Core.Path.{refl}
 use Rattle.table.specs.Cells.{stands_at}
 use Rattle.nucleus.specs.View.{held, refused, desk_of}

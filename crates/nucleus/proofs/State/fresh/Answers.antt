@@ -1,5 +1,4 @@
 -- `State::fresh` meets its contract: every place is clean, and every line empty.
-use borrow.Author.Rules.{rules}
 use Rattle.nucleus.specs.Settled.{fresh_shows}
 use Rattle.nucleus.proofs.State.fresh.Goals as goal
 

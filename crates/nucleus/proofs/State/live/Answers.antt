@@ -1,6 +1,4 @@
 -- `State::live` meets its contract: the live count is the ones of the filled set.
-use borrow.Author.Rules.{rules}
-use borrow.Author.Tests.{not-true, not-false}
 use mathlib.Core.Path.{refl, sym, ◌∙◌}
 use Rattle.table.specs.Cells.{stands_at}
 use Rattle.table.specs.Choose.{live_is}

@@ -1,7 +1,5 @@
 -- `State::step` meets its contract: 14, or the event acts.
-use borrow.Author.Rules.{rules}
 use mathlib.Core.Path.{refl}
-use borrow.Author.Tests.{not-true, not-false}
 use Rattle.nucleus.specs.View.{held, refused}
 use Rattle.nucleus.proofs.State.step.Goals as goal
 

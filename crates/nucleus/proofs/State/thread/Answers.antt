@@ -1,6 +1,4 @@
 -- `State::thread` meets its contract.
-use borrow.Author.Rules.{rules}
-use borrow.Author.Tests.{not-true, not-false}
 use mathlib.Core.Path.{sym, ◌∙◌}
 use Rattle.table.specs.Rows.{thread_at, thread_past}
 use Rattle.nucleus.specs.View.{held, refused}

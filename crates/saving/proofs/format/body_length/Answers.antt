@@ -1,6 +1,5 @@
 -- `body_length` meets its contract, with a parent and without.
 use native.Mathlib.Omega.{arith}
-use borrow.Author.Rules.{rules}
 use Rattle.saving.proofs.format.body_length.Goals as goal
 
 pub returns-then-row : goal.returns-then-row

@@ -1,5 +1,4 @@
 -- `newest` meets its contract: the table has the newest edition as its last.
-use borrow.Author.Rules.{rules}
 use mathlib.Core.Path.{sym, ◌∙◌}
 use Rattle.saving.specs.Editions.{newest_known, known_row}
 use Rattle.saving.proofs.format.newest.Goals as goal

@@ -3,7 +3,6 @@ use mathlib.Core.Path.{refl, sym}
 use native.Mathlib.Omega.{arith}
 use Rattle.saving.specs.Format.{queues_of, parents_of, places_of}
 use Rattle.saving.specs.Editions.{past, past_parents, past_places}
-use borrow.Author.Rules.{rules}
 use Rattle.saving.proofs.format.row_of.Goals as goal
 
 pub returns-then-edition-gt-NEWEST : goal.returns-then-edition-gt-NEWEST

@@ -1,9 +1,6 @@
 -- `pick` meets its contract: whom a search from here on finds is whom the whole search finds.
 use native.Mathlib.Omega.{arith}
-use lib.ListN.{length}
-use Rattle.lines.specs.Passes.{left}
-use Rattle.rules.specs.Model.{places}
-use Rattle.talk.specs.Pick.{Picking, pick_start, pick_end, pick_place, pick_here, pick_again, pick_less}
+use Rattle.talk.specs.Pick.{pick_start, pick_end, pick_place, pick_here, pick_again, pick_less}
 use Rattle.talk.proofs.receive.pick.Goals as goal
 
 pub first-p-requires : goal.first-p-requires

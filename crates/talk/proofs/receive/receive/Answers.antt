@@ -1,5 +1,4 @@
 -- `receive` meets its contract: refused, or the caller receives, or the first match is taken.
-use borrow.Author.Rules.{rules}
 use native.Mathlib.Omega.{arith}
 use Rattle.verbs.specs.Steps.{stood}
 use Rattle.verbs.specs.Caller.{caller_place}

@@ -1,5 +1,4 @@
 -- `source` meets its contract: a number that is named is refused as for a send, and any only where nobody runs.
-use borrow.Author.Rules.{rules}
 use native.Mathlib.Omega.{arith}
 use Rattle.talk.specs.Receive.{source_named, source_1, source_0}
 use Rattle.talk.proofs.receive.source.Goals as goal

@@ -1,5 +1,4 @@
 -- `take` meets its contract: a leave and two stores are the rule's.
-use borrow.Author.Rules.{rules}
 use native.Mathlib.Omega.{arith}
 use Rattle.verbs.specs.Steps.{stood, heard, left}
 use Rattle.talk.specs.Receive.{took}

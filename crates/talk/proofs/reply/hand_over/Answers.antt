@@ -1,5 +1,4 @@
 -- `hand_over` meets its contract: the caller is ready, and the other runs with its answer.
-use borrow.Author.Rules.{rules}
 use Rattle.verbs.specs.Steps.{stood, heard}
 use Rattle.verbs.specs.Caller.{caller_place, caller_loose}
 use Rattle.verbs.specs.Address.{met_place}

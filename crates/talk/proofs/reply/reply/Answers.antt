@@ -1,6 +1,4 @@
-use borrow.Author.Rules.{rules}
 use native.Mathlib.Omega.{arith}
-use borrow.Author.Tests.{not-true, not-false}
 use Rattle.verbs.specs.Caller.{caller_place}
 use Rattle.verbs.specs.Address.{seated, met_place}
 use Rattle.talk.specs.Reply.{reply_not, reply_5, reply_0}

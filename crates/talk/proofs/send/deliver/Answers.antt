@@ -1,5 +1,4 @@
 -- `deliver` meets its contract: the two ways are those of the rule.
-use borrow.Author.Rules.{rules}
 use native.Mathlib.Omega.{arith}
 use Rattle.verbs.specs.Steps.{then, stood, joined}
 use Rattle.verbs.specs.Caller.{caller_place, caller_loose}

@@ -1,5 +1,4 @@
 -- `send` meets its contract: refused with the code of the address, or delivered.
-use borrow.Author.Rules.{rules}
 use native.Mathlib.Omega.{arith}
 use Rattle.verbs.specs.Address.{seated}
 use Rattle.talk.specs.Send.{send_not, sent}

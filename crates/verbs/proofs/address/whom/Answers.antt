@@ -1,5 +1,4 @@
 -- `whom` meets its contract: the caller may not name the number, or it is not live, or it is found.
-use borrow.Author.Rules.{rules}
 use native.Mathlib.Omega.{arith}
 use Rattle.verbs.specs.Address.{addresses_not, addresses_4, addresses_0}
 use Rattle.verbs.proofs.address.whom.Goals as goal
