@@ -38,8 +38,8 @@ meets {s} {w = w} {o = o} e x z t f y =
     rw y (record { state = record { consists = u.stands; seen = u.seen }; code = u.code; choice = f w ∙ ap choice u.seen; number = u.number })
 
 -- two replies to one outcome are equal
-pub meets-one : {o : Outcome} {r t : Reply} → Meets o r → Meets o t → r ≡ t
-meets-one a b =
+pub meets_one : {o : Outcome} {r t : Reply} → Meets o r → Meets o t → r ≡ t
+meets_one a b =
     let s = shows_one a.state b.state in
     let c = a.code ∙ sym b.code in
     let x = a.choice ∙ sym b.choice in
@@ -47,8 +47,8 @@ meets-one a b =
     λ i. record { state = s i; code = c i; choice = x i; number = record { 0 = n i } }
 
 -- two replies that meet the contract are equal
-pub one-outcome : (s : State) (e : Event) {r t : Reply} → Answers s e r → Answers s e t → r ≡ t
-one-outcome s e (held k a) (held l b) = meets-one a b
-one-outcome s e (held k a) (refused n b) = absurd (n k)
-one-outcome s e (refused n a) (held l b) = absurd (n l)
-one-outcome s e (refused n a) (refused m b) = a ∙ sym b
+pub one_outcome : (s : State) (e : Event) {r t : Reply} → Answers s e r → Answers s e t → r ≡ t
+one_outcome s e (held k a) (held l b) = meets_one a b
+one_outcome s e (held k a) (refused n b) = absurd (n k)
+one_outcome s e (refused n a) (held l b) = absurd (n l)
+one_outcome s e (refused n a) (refused m b) = a ∙ sym b

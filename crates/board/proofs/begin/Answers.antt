@@ -1,6 +1,11 @@
 -- `begin` meets its contract: 7, or the fresh image.
-use Rattle.board.specs.Answers.{save-short, fresh-saved}
+use Rattle.board.specs.Answers.{save_short, fresh_saved}
+use borrow.Author.Rules.{rules}
 use Rattle.board.proofs.begin.Goals as goal
 
+pub keep-requires : goal.keep-requires
+keep-requires c = c.fresh-s.ensures.consists
+
 pub returns : goal.returns
-returns c = (fresh-saved c.fresh-s.ensures c.keep.ensures, save-short c.fresh-s.ensures c.keep.ensures)
+returns c =
+    (fresh_saved c.fresh-s.ensures c.keep.ensures, save_short c.fresh-s.ensures c.keep.ensures)

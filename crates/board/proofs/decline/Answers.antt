@@ -1,0 +1,7 @@
+-- `decline` meets its contract.
+use mathlib.Core.Path.{refl}
+use borrow.Author.Rules.{rules}
+use Rattle.board.proofs.decline.Goals as goal
+
+pub returns : goal.returns
+returns c = rw (c.kind.ensures, c.runs.ensures) refl

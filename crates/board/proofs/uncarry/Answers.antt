@@ -1,0 +1,7 @@
+-- `uncarry` meets its contract.
+use mathlib.Core.Path.{refl}
+use borrow.Author.Rules.{rules}
+use Rattle.board.proofs.uncarry.Goals as goal
+
+pub returns : goal.returns
+returns c = rw (c.kind.ensures, c.runs.ensures) refl
