@@ -215,7 +215,8 @@ fn enter(b: &Blocks, who: &mut [u8; ENTRIES], p: Place) -> bool
         return true;
     }
     let n = wide(b[table::NUMBER + at]);
-    if who[n] != NONE {
+    let taken = who[n] != NONE;
+    if taken {
         return false;
     }
     who[n] = p.0;
@@ -368,7 +369,8 @@ pub fn consistent_by(strict: bool, b: &Blocks, w: &Words, l: &Links, d: Desk) ->
     ensures { Tells result (StandsBy strict d b.now w.now l.now) (StandsBy strict d b.now w.now l.now → ⊥) }
 {
     let seats = lines::survey(l);
-    if !seats.tidy {
+    let untidy = !seats.tidy;
+    if untidy {
         return false;
     }
     let at = seats.at;

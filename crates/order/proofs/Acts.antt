@@ -2,18 +2,15 @@
 -- for create a Swap of one place, and for end a family is dropped.
 use Rattle.std.specs.Prelude.{◌≡◌}
 use Rattle.rules.specs.Model.{Model}
-use Rattle.rules.specs.Rules.{place_of, next_number, newcomer, creator, empty_place, act, refusal}
+use Rattle.rules.specs.Rules.{act, refusal}
 use Rattle.rules.specs.Consistent.{Fits, ListensToLive}
 use Rattle.rules.specs.declared.Event.{Event}
 use Rattle.rules.specs.declared.Event.TheVariants.{Create, Send, Receive, Reply, End, WaitClock, SliceEnd, Tick, WaitDevice, Interrupt}
 use Rattle.order.specs.Sound.{Sound, Kin}
-use Rattle.order.specs.Moves.{Step}
-use Rattle.order.specs.Fill.{Swap}
 use Rattle.order.proofs.Create.{creates}
 use Rattle.order.specs.Send.{sends}
 use Rattle.order.specs.Receive.{receives}
 use Rattle.order.specs.Reply.{replies}
-use Rattle.order.specs.EndFamily.{Dropped}
 use Rattle.order.proofs.EndFamily.{family_ends}
 use Rattle.order.specs.Clock.{rests, slice_ends, ticks}
 use Rattle.order.specs.Devices.{attends, interrupts}

@@ -1,11 +1,11 @@
 -- Whom an answer names: after an event each answer is the one that was there before, or one from no thread (255), or it names the one that answers in this
 -- event, which lived when the event came.
-use Rattle.std.specs.Prelude.{ℕ, ◌≤◌, ◌≡◌, refl, ◌≢◌, ◌⊎◌, List, [], ◌∷◌, Bool, true, false, cond, not, length, set, eqb}
+use Rattle.std.specs.Prelude.{ℕ, ◌≡◌, refl, ◌≢◌, ◌⊎◌, List, [], ◌∷◌, Bool, true, false, cond, not, length, set, eqb}
 use Rattle.std.proofs.Common.{sym, ap, ◌∙◌, inl, inr, ⊎_elim, arith, length-set, get_or-set_same, get_or-set_other, eqb-true}
 use Rattle.std.proofs.Math.Decide.{ℕ_discrete, dec_lt}
 use Rattle.std.proofs.Math.ListN.{get_or-eq_default}
 use Rattle.std.proofs.lemmas.Bool.{eqb-false}
-use Rattle.lists.specs.Lists.{none, count, first_of}
+use Rattle.lists.specs.Lists.{none, first_of}
 use Rattle.lists.specs.Laws.{by_test, never}
 use Rattle.lists.specs.Search.{found_in}
 use Rattle.kin.specs.Carried.{chained}
@@ -21,7 +21,7 @@ use Rattle.order.specs.Sound.{Live, Sound, Kin, sound, kin, sending}
 use Rattle.order.specs.Places.{lives_at_lem, place_only}
 use Rattle.order.specs.Caller.{alive}
 use Rattle.order.specs.EndOne.{one_ends, ends}
-use Rattle.order.specs.EndFamily.{Of, Dropped}
+use Rattle.order.specs.EndFamily.{Dropped}
 use Rattle.order.proofs.EndFamily.{family_ends, dead}
 use Rattle.order.specs.Accepted.{Accepted, accepted}
 use Rattle.order.specs.Answerer.{Answering, AnswerFrom}
@@ -31,8 +31,10 @@ module _ (Q : ℕ → ℕ → ℕ → ℕ → Type 0) where
   -- Q of the place, and of the answer's code, who and word
   abbrev At : ℕ → Thread → Type 0
   At s t = Q s t.code t.who t.answer
+
   abbrev All : Model → Type 0
   All m = (s : ℕ) → At s (thread m s)
+
   all_put : (p : ℕ) (t : Thread) (m : Model) → At p t → All m → All (put p t m)
   all_put p t m h A s = elim (ℕ_discrete s p) [
     | no n ↦ rw (get_or-set_other m.threads p s t vacant n) (A s)
@@ -44,11 +46,14 @@ module _ (Q : ℕ → ℕ → ℕ → ℕ → Type 0) where
           rw (get_or-eq_default (set m.threads p t) vacant {n = p} (omega arith)) (rw (get_or-eq_default m.threads vacant {n = p} (omega arith)) at B)
     ])
   ]
+
   -- a place that stands otherwise has its answer still
   all_stands : (p st pa w : ℕ) (m : Model) → All m → All (put p (stands st pa w (thread m p)) m)
   all_stands p st pa w m A = all_put p (stands st pa w (thread m p)) m (A p) A
+
   all_woken : (p c n w : ℕ) (m : Model) → Q p c n w → All m → All (woken p c n w m)
   all_woken p c n w m h A = all_put p (stands Ready nobody 0 (told c n w (thread m p))) m h A
+
   all_out : (p : ℕ) (m : Model) → All m → All (out_of_line p m)
   all_out p m A =
       by_test (eqb (thread m p).standing Running) (λ t. rw t A)
@@ -56,21 +61,27 @@ module _ (Q : ℕ → ℕ → ℕ → ℕ → Type 0) where
       (λ t. rw t (by_test (eqb (thread m p).standing Sending) (λ t. rw t A)
       (λ t. rw t (by_test (eqb (thread m p).standing Waiting) (λ t. rw t A)
       (λ t. rw t (by_test (eqb (thread m p).standing AtDevice) (λ t. rw t A) (λ t. rw t A)))))))))
+
   all_starts : (l : List ℕ) (m : Model) → All m → All (starts l m)
   all_starts [] m A = A
   all_starts (p ∷ l) m A = all_stands p Running nobody 0 m A
+
   all_dispatched : (m : Model) → All m → All (dispatched m)
   all_dispatched m A = by_test (idle m) (λ t. rw t (all_starts (line m ready) m A)) (λ t. rw t A)
+
   -- where Q holds of all that come from no thread
   module _ (outer : (s w : ℕ) → Q s 0 nobody w) where
     all_rung : (l : List ℕ) (m : Model) → All m → All (rung l m)
     all_rung [] m A = A
     all_rung (p ∷ l) m A = all_rung l (woken p 0 nobody 0 (relined clock l m)) (all_woken p 0 nobody 0 (relined clock l m) (outer p 0) A)
+
     all_served : (i : ℕ) (l : List ℕ) (w : ℕ) (m : Model) → All m → All (served_at i l w m)
     all_served i [] w m A = A
     all_served i (p ∷ l) w m A = all_woken p 0 nobody w (relined (device i) l m) (outer p w) A
+
     all_serves : (i w : ℕ) (m : Model) → All m → All (serves i w m)
     all_serves i w m A = by_test (eqb i none) (λ t. rw t A) (λ t. rw t (all_served i (line m (device i)) w m A))
+
   -- where Q holds of all that name n
   module _ (n : ℕ) (named : (s c w : ℕ) → Q s c n w) where
     all_back : (r : ℕ) (l : List ℕ) (m : Model) → All m → All (handed_back n r l m)
@@ -78,12 +89,14 @@ module _ (Q : ℕ → ℕ → ℕ → ℕ → Type 0) where
     all_back r (p ∷ l) m A =
         let k = woken p 16 n (thread m p).word (relined (inbox r) l m) in
         all_back r l k (all_woken p 16 n (thread m p).word (relined (inbox r) l m) (named p 16 (thread m p).word) A)
+
     all_let : (g : Group) → ((t : Thread) → g.who t ≡ n) → (l : List ℕ) (m : Model) → All m → All (let_go g l m)
     all_let g e [] m A = A
     all_let g e (p ∷ l) m A =
         let k = woken p 16 (g.who (thread m p)) (g.word (thread m p)) m in
         let B : All k = all_woken p 16 (g.who (thread m p)) (g.word (thread m p)) m (rw (e (thread m p)) (named p 16 (g.word (thread m p)))) A in
         all_let g e l (cond (g.picks (thread m p)) k m) (by_test (g.picks (thread m p)) (λ t. rw t B) (λ t. rw t A))
+
     all_end : ((s w : ℕ) → Q s 0 nobody w) → (p : ℕ) (m : Model) → All m → All (end_at p n m)
     all_end outer p m A =
         let m₁ = out_of_line p m in
@@ -91,15 +104,18 @@ module _ (Q : ℕ → ℕ → ℕ → ℕ → Type 0) where
         let m₃ = let_go (awaiting n) all_places m₂ in
         let A₃ = all_let (awaiting n) (λ t. refl) all_places m₂ (all_back p (line m₁ (inbox p)) m₁ (all_out p m A)) in
         all_put p vacant (let_go (listening n) all_places m₃) (outer p 0) (all_let (listening n) (λ t. refl) all_places m₃ A₃)
+
     all_send : (p d w : ℕ) (m : Model) → All m → All (send_to p n d w m)
     all_send p d w m A =
         by_test (hears (thread m p) n)
         (λ t. rw t (all_woken p 0 n w (stops Awaiting d w m) (named p 0 w) (all_stands m.running Awaiting d w m A)))
         (λ t. rw t (all_stands m.running Sending d w m A))
+
     all_reply : (p w : ℕ) (m : Model) → All m → All (reply_to p n w m)
     all_reply p w m A =
         let m₁ = runs none (readied m.running m) in
         all_put p (stands Running nobody 0 (told 0 n w (thread m₁ p))) m₁ (named p 0 w) (all_stands m.running Ready nobody 0 m A)
+
     all_takes : (c p : ℕ) (m : Model) → (thread m p).number ≡ n → All m → All (takes c p m)
     all_takes c p m e A =
         let k = awaits c p m in
@@ -149,10 +165,13 @@ left_all m S p k D = (chained Sound lives_at above end_one places all_places chi
 module _ (e : Event) (m : Model) where
   start : All (AnswerFrom e m) m
   start s = inl (refl, refl, refl)
+
   outer : (s w : ℕ) → AnswerFrom e m s 0 nobody w
   outer s w = inr (inl refl)
+
   named : (n : ℕ) → Answering e m n × Live m n → (s c w : ℕ) → AnswerFrom e m s c n w
   named n a s c w = inr (inr a)
+
   receives_from : (n p : ℕ) → (p ≢ none → Answering e m (thread m p).number × Live m (thread m p).number) → All (AnswerFrom e m) (receive_from p n m)
   receives_from n p a =
       by_test (eqb p none)
@@ -162,11 +181,13 @@ module _ (e : Event) (m : Model) where
 module _ (m : Model) (S : Sound m) (K : Kin m) where
   caller : m.running ≢ none → Live m (mine m)
   caller busy = (m.running, alive m S busy, refl)
+
   sender : (f : ℕ → Bool) (r : ℕ) → let p = first_of f (line m (inbox r)) in p ≢ none → Live m (thread m p).number
   sender f r h =
       let p = first_of f (line m (inbox r)) in
       let e = sending m S r p (found_in f (line m (inbox r)) h) in
       (p, omega arith, refl)
+
   ended : (t : Number) → Accepted (End t) m → All (AnswerFrom (End t) m) (act (End t) m)
   ended t a s =
       let D = family_ends m S K t.0 a in
@@ -177,6 +198,7 @@ module _ (m : Model) (S : Sound m) (K : Kin m) where
       let at = ap (place_of m) (sym g.3) ∙ place_only m S g.0 l in
       inr (inr ((a, rw at (D.without.only g.0 l (dead (end t.0 m) g.0 g.2))), (g.0, l, g.3)))) v)
       (left_all m S (place_of m t.0) (end t.0 m) D s)
+
   act_answers : (e : Event) → Accepted e m → All (AnswerFrom e m) (act e m)
   act_answers Create a =
       let n = next_number m in

@@ -37,6 +37,7 @@ back_only e m C f = go (eqb (refusal e m) 0) refl
   where
     S : Sound m
     S = sound m C
+
     go : (b : Bool) → eqb (refusal e m) 0 ≡ b → Grown (line m ready) (line (cond b (dispatched (act e m)) m) ready)
     go true z =
         let r = eqb-true _ _ z in

@@ -24,23 +24,29 @@ module _ (m : Model) where
   -- the places that live, by rising place, as many as the live count
   abbrev live_places : List ℕ
   live_places = only (lives_at m) all_places
+
   live_length : live m ≡ length live_places
   unfolding all_places
   live_length = sym (only_tally (lives_at m) 0 places ∙ tally_ext places (λ i. lives_at m (0 + i)) (lives_at m) (λ i h. ap (lives_at m) (omega arith)))
+
   live_few : length live_places ≤ places
   unfolding all_places
   live_few = only_few (lives_at m) 0 places
+
   live_low : live m ≤ places
   live_low = let a = live_few in let b = live_length in omega arith
+
   -- two numbers for each: the thread's, and behind all these the who in its answer
   abbrev mark : ℕ → ℕ
   mark i = cond (ltb i (live m)) (thread m (get_or live_places i 0)).number (thread m (get_or live_places (i - live m) 0)).who
+
   module _ (S : Sound m) where
     seat_of : (p : ℕ) → (thread m p).standing ≢ Empty → (i : ℕ) × (i < live m) × (get_or live_places i 0 ≡ p)
     seat_of p h =
         let w = among_at p live_places (only_in (lives_at m) p all_places (at_lives m p h) (some_among p all_places (every_place p (small m S p h)))) in
         let c = live_length in
         (w.0, omega (arith, w.1), w.2)
+
     marked : (n : ℕ) → barred m n ≡ true → (i : ℕ) × (i < 2 * live m) × (mark i ≡ n)
     marked n e =
         let v = barred_by m n e in
@@ -51,9 +57,11 @@ module _ (m : Model) where
         let k : live m + w.0 - live m ≡ w.0 = omega arith in
         (live m + w.0, omega (arith, w.1), rw (le-ltb (live m + w.0) (live m) (omega arith), k, w.2) h.1))
         v.1
+
     -- at most two for each live thread
     pub barred_few : (xs : List ℕ) → ((n : ℕ) → among n xs ≡ true → barred m n ≡ true) → Distinct xs → length xs ≤ 2 * live m
     barred_few xs h d = pigeons mark (2 * live m) xs (λ n g. marked n (h n g)) d
+
     -- so one of the 254 is not
     pub some_clear : next_number m ≢ nobody
     some_clear =

@@ -1,9 +1,8 @@
 -- What the end of a family comes to, by the rules' own end: `deep_enough`, `orphans_none`, `family_only`, and that what is consistent stays so.
-use Rattle.std.specs.Prelude.{ℕ, ◌≤◌, ◌<◌, ◌≡◌, refl, ◌≢◌, ◌⊎◌, List, true, false}
+use Rattle.std.specs.Prelude.{ℕ, ◌≤◌, ◌<◌, ◌≡◌, refl, ◌≢◌, ◌⊎◌, true, false}
 use Rattle.std.proofs.Common.{sym, ap, ◌∙◌, inl, inr, arith}
 use Rattle.lists.specs.Lists.{none}
 use Rattle.lists.specs.Laws.{by_test, never}
-use Rattle.kin.specs.Climb.{climb}
 use Rattle.kin.specs.Family.{OneByOne, all_gone, rooted_gone}
 use Rattle.kin.specs.Family
 use Rattle.kin.specs.Carried.{carried, chained}
@@ -39,18 +38,24 @@ module _ (m : Model) (S : Sound m) (K : Kin m) (n : ℕ) (h : place_of m n ≢ n
   -- where the thread n stands, and the nucleus after its end
   abbrev p : ℕ
   p = place_of m n
+
   abbrev k : Model
   k = end n m
+
   alive : lives_at m p ≡ true
   alive = at_lives m p (placed m n h).0
+
   ended : Ended m p k
   ended = down_ends (live m) p m (may_end m S K p (placed m n h).0)
+
   -- with the live count as depth no family is cut off: any larger depth gives the same
   pub deep_enough : (d : ℕ) → live m ≤ d → end_down d (place_of m n) m ≡ end n m
   deep_enough d i = Family.deep_enough Sound lives_at above end_one places all_places child_of ends end_down down_step m S (no_ring m K) p alive d i
+
   stayed : (r : ℕ) → lives_at k r ≡ true → (lives_at m r ≡ true) × Same m k r
   stayed = carried Sound lives_at above end_one places all_places child_of ends Same (λ a r. record { number = refl; parent = refl; waits = λ e. (refl, omega arith) }) same_then one_same
       ended.turns.0 m k S ended.turns.1
+
   -- exactly T and those from whom parents lead to T are gone, and everyone else lives with number, place and parent as before
   pub family_only : Without m (place_of m n) (end n m)
   family_only = record {
@@ -58,6 +63,7 @@ module _ (m : Model) (S : Sound m) (K : Kin m) (n : ℕ) (h : place_of m n ≢ n
     only = λ r l e. ended.only r (at_lives m r l) (at_dead k r e);
     stay = λ r l. let w = stayed r (at_lives k r l) in (lives_at_lem m r w.0, w.1);
   }
+
   -- afterwards no live thread's parent is one that ended
   pub orphans_none : (r q : ℕ) → (thread (end n m) r).standing ≢ Empty → (thread m q).standing ≢ Empty → (thread (end n m) q).standing ≡ Empty
       → (thread (end n m) r).parent ≢ (thread m q).number
@@ -68,9 +74,11 @@ module _ (m : Model) (S : Sound m) (K : Kin m) (n : ℕ) (h : place_of m n ≢ n
       let b : above k r ≡ q = ended.less.aboves r g ∙ a in
       let c : lives_at k (above k r) ≡ true = above_lives k r (omega arith) in
       never c (ap (lives_at k) b ∙ at_dead k q e)
+
   -- the end of a family is Sound, as the end of each one is
   pub sound_after : Sound (end n m)
   sound_after = ended.less.good
+
   -- and the parents of those who stay are live, and form no ring
   pub kin_after : Kin (end n m)
   kin_after = record {
@@ -84,10 +92,12 @@ module _ (m : Model) (S : Sound m) (K : Kin m) (n : ℕ) (h : place_of m n ≢ n
     where
       placed_live : (r : ℕ) → above k r ≢ none → Live k (thread k r).parent
       placed_live r y = let v = placed k (thread k r).parent y in (above k r, v.0, v.1)
+
   -- nobody listens to the dead afterwards who did not before
   pub listens_after : ListensToLive m → ListensToLive (end n m)
   listens_after = (chained Sound lives_at above end_one places all_places child_of ends (λ a b. ListensToLive a → ListensToLive b) (λ a _ L. L)
       (λ a b c _ _ _ F G L. G (F L)) (λ a T q l. (one_ends a T q l).listens) ended.turns.0 m k S ended.turns.1).1
+
   -- a ready thread goes on waiting for its turn, no further back, or was of the family and is gone
   pub waits_or_gone : (r : ℕ) → (thread m r).standing ≡ Ready → Waits m (end n m) r ⊎ (Of m (place_of m n) r × ((thread (end n m) r).standing ≡ Empty))
   waits_or_gone r e =
@@ -95,11 +105,13 @@ module _ (m : Model) (S : Sound m) (K : Kin m) (n : ℕ) (h : place_of m n ≢ n
       by_test (lives_at k r)
       (λ t. inl ((stayed r t).1.waits e))
       (λ t. inr (family_only.only r l (dead k r t), dead k r t))
+
   -- nobody has the number of one that is gone
   pub number_gone : (r : ℕ) → (thread m r).standing ≢ Empty → (thread (end n m) r).standing ≡ Empty → in_use (end n m) (thread m r).number ≡ false
   number_gone r l e = not_in_use k (thread m r).number (λ s g z.
       let w = family_only.stay s g in
       let q : s ≡ r = S.differ s r w.0 (sym w.1.number ∙ z) in
       g (rw q e))
+
   pub family_ends : Dropped m (place_of m n) (end n m)
   family_ends = record { sound = sound_after; kin = kin_after; listens = listens_after; without = family_only; waits = waits_or_gone; number = number_gone; turns = ended.turns }

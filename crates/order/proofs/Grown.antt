@@ -1,5 +1,5 @@
 -- Ready, while an event acts: what stays of it, in its order, and behind that those who join.
-use Rattle.std.specs.Prelude.{ℕ, ◌≡◌, refl, ◌≢◌, List, [], ◌∷◌, ◌++◌, true, false, eqb}
+use Rattle.std.specs.Prelude.{ℕ, ◌≡◌, refl, ◌≢◌, List, [], ◌∷◌, ◌++◌, eqb}
 use Rattle.std.proofs.Common.{sym, arith, get_or-set_same, get_or-set_other, eqb-true, eq-eqb}
 use Rattle.std.proofs.Math.Path.{subst⁻¹}
 use Rattle.std.proofs.Math.Decide.{ℕ_discrete}
@@ -77,12 +77,14 @@ steps m k S F = grows m k S F.kept.sound F.waits
 module _ (old : List ℕ) where
   abbrev pub Grew : Model → Type 0
   Grew m = Grown old (line m ready)
+
   -- one leaves a line
   grew_leave : (m : Model) → Sound m → (q p : ℕ) → Grew m → Grew (leave q p m)
   grew_leave m S q p g = elim (ℕ_discrete q ready) [
     | yes e ↦ rw (e, get_or-set_same m.lines ready (without p (line m ready)) [] (omega (arith, S.lines))) (grown_without p old (line m ready) g)
     | no n ↦ rw (get_or-set_other m.lines q ready (without p (line m q)) [] (λ z. n (sym z))) g
   ]
+
   grew_out : (m : Model) → Sound m → (p : ℕ) → Grew m → Grew (out_of_line p m)
   grew_out m S p g =
       let st = (thread m p).standing in
@@ -91,12 +93,14 @@ module _ (old : List ℕ) where
       by_test (eqb st Sending) (λ c. rw (a, b, c) (grew_leave m S (inbox (place_of m (thread m p).partner)) p g)) (λ c.
       by_test (eqb st Waiting) (λ d. rw (a, b, c, d) (grew_leave m S clock p g)) (λ d.
       by_test (eqb st AtDevice) (λ e. rw (a, b, c, d, e) (grew_leave m S (device (thread m p).partner) p g)) (λ e. rw (a, b, c, d, e) g)))))
+
   -- the front is started
   grew_start : (m : Model) → Sound m → Grew m → (l : List ℕ) → line m ready ≡ l → Grew (starts l m)
   grew_start m S g [] e = g
   grew_start m S g (x ∷ l) e = rw (get_or-set_same m.lines ready l [] (omega (arith, S.lines))) (
       let h = grown_without x old (line m ready) g in
       rw (e, eq-eqb x x refl) at h)
+
   pub grew_dispatched : (m : Model) → Sound m → Grew m → Grew (dispatched m)
   grew_dispatched m S g = by_test (idle m) (λ t. rw t (grew_start m S g (line m ready) refl)) (λ t. rw t g)
 

@@ -1,9 +1,9 @@
 -- A fresh nucleus is consistent, and every event, accepted or refused, keeps a consistent nucleus consistent: so does every history.
-use Rattle.std.specs.Prelude.{ℕ, ◌≡◌, refl, List, [], ◌∷◌, Bool, true, false, cond, eqb}
+use Rattle.std.specs.Prelude.{ℕ, ◌≡◌, refl, List, [], Bool, true, false, cond, eqb}
 use Rattle.std.proofs.Common.{ap, arith, eqb-true}
 use Rattle.lists.specs.Tables.{all_same}
 use Rattle.rules.specs.Model.{places, line_count, Thread, vacant, Model, thread}
-use Rattle.rules.specs.Rules.{fresh, dispatched, act, refusal, next, after}
+use Rattle.rules.specs.Rules.{fresh, dispatched, act, refusal, next}
 use Rattle.rules.specs.Consistent.{Fits, Consistent}
 use Rattle.rules.specs.declared.Event.{Event}
 use Rattle.order.specs.Sound.{Sound, sound, kin, whole}
@@ -13,7 +13,6 @@ use Rattle.order.specs.End.{fit_vacant}
 use Rattle.order.specs.KinKept.{kin_older}
 use Rattle.order.specs.Accepted.{accepted}
 use Rattle.order.proofs.Acts.{does, acts_sound, acts_kin, acts_listens}
-use Rattle.order.specs.Keeps.{AllFit}
 
 -- ---- fresh
 vacant_all : (p : ℕ) → thread fresh p ≡ vacant
@@ -49,7 +48,7 @@ acts e m C f z =
     let D = does e m (sound m C) (kin m C) f z in
     dispatch (act e m) (acts_sound e m D) (acts_kin e m (sound m C) (kin m C) (accepted e m z) D) (acts_listens e m D C.listens)
 
-pub keeps : (e : Event) (m : Model) → Consistent m → Unit {0} → Consistent (next e m)
+pub keeps : (e : Event) (m : Model) → Consistent m → Fits e → Consistent (next e m)
 keeps e m C f = go (eqb (refusal e m) 0) refl
   where
     go : (b : Bool) → eqb (refusal e m) 0 ≡ b → Consistent (cond b (dispatched (act e m)) m)

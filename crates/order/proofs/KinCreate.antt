@@ -21,18 +21,23 @@ module _ (m k : Model) (S : Sound m) (K : Kin m) (p n : ℕ) (place : p < places
     (W : Swap m p (newcomer n (creator m)) k) where
   other : (s : ℕ) → (thread m s).standing ≢ Empty → s ≢ p
   other s h z = h (rw z vacated)
+
   lives_on : (s : ℕ) → (thread m s).standing ≢ Empty → (thread k s).standing ≢ Empty
   lives_on s h = lives_at_lem k s (W.lives s (other s h) ∙ at_lives m s h)
+
   lived : (s : ℕ) → s ≢ p → (thread k s).standing ≢ Empty → (thread m s).standing ≢ Empty
   lived s z h = lives_at_lem m s (sym (W.lives s z) ∙ at_lives k s h)
+
   numbered : (thread k p).number ≡ n
   numbered = ap (λ (t : Thread). t.number) W.own
+
   -- nobody's parent has the new number
   strange : (s : ℕ) → (thread m s).standing ≢ Empty → n ≢ (thread m s).parent
   strange s h e = elim (ℕ_discrete (thread m s).parent nobody) [
     | yes z ↦ omega arith
     | no z ↦ let v = K.parented s h z in unused m S n free v.0 v.1 (v.2 ∙ sym e)
   ]
+
   above_as : (s : ℕ) → lives_at m s ≡ true → above k s ≡ above m s
   above_as s g =
       let h = lives_at_lem m s g in
@@ -40,13 +45,17 @@ module _ (m k : Model) (S : Sound m) (K : Kin m) (p n : ℕ) (place : p < places
       ap (place_of k) (W.parents s (other s h))
       ∙ found_same m k p (thread m s).parent W.lives W.numbers off
       (λ z. let v = (placed m (thread m s).parent (omega arith)).0 in v (rw z vacated))
+
   climb_as : (j s : ℕ) → lives_at m s ≡ true → climb (above k) j s ≡ climb (above m) j s
   climb_as = climb_same (above m) (above_none m S) (above k) (lives_at m) (above_none k W.sound) above_as (λ r _. above_lives m r)
+
   -- the newcomer's parent lives, and leads up to nobody ..
   abbrev Started : Type 0
   Started = ((thread k p).parent ≢ nobody → Live k (thread k p).parent) × ((j : ℕ) × (climb (above k) j p ≡ none))
+
   raised : (thread k p).parent ≡ creator m
   raised = ap (λ (t : Thread). t.parent) W.own
+
   -- .. with nobody running, and with somebody
   started : (b : Bool) → idle m ≡ b → (thread k p).parent ≡ cond b nobody (mine m) → Started
   started true e f = ((λ z. absurd (z f)), (1, ap (place_of k) f ∙ nobody_nowhere k W.sound))
@@ -57,6 +66,7 @@ module _ (m k : Model) (S : Sound m) (K : Kin m) (p n : ℕ) (place : p < places
       let a : above k p ≡ r = ap (place_of k) (f ∙ sym u) ∙ place_only k W.sound r (lives_on r l) in
       let v = K.rooted r l in
       ((λ _. (r, lives_on r l, u ∙ sym f)), (suc v.0, ap (climb (above k) v.0) a ∙ climb_as v.0 r (at_lives m r l) ∙ v.1))
+
   pub kin_filled : Kin k
   kin_filled =
       let w = started (idle m) refl raised in

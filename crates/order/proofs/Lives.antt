@@ -1,11 +1,11 @@
 -- Who lives after an accepted event: whoever lived before, but create fills the lowest empty place and end empties those of a family.
-use Rattle.std.specs.Prelude.{ℕ, ◌≡◌, ◌≢◌, Bool, true, false, cond, not, eqb}
+use Rattle.std.specs.Prelude.{ℕ, ◌≡◌, ◌≢◌, false, cond, not, eqb}
 use Rattle.std.proofs.Common.{◌∙◌, arith, eq-eqb, ne_eqb}
 use Rattle.std.proofs.Math.Decide.{ℕ_discrete}
 use Rattle.lists.specs.Laws.{by_test, never}
 use Rattle.kin.specs.Climb.{leads, leads_yes, leads_in}
 use Rattle.rules.specs.Model.{Empty, Thread, Model, thread, lives_at, live}
-use Rattle.rules.specs.Rules.{place_of, empty_place, dispatched, act, refusal}
+use Rattle.rules.specs.Rules.{place_of, dispatched, act, refusal}
 use Rattle.rules.specs.Consistent.{above, Fits, Consistent}
 use Rattle.rules.specs.declared.Event.{Event}
 use Rattle.rules.specs.declared.Event.TheVariants.{Create, Send, Receive, Reply, End, WaitClock, SliceEnd, Tick, WaitDevice, Interrupt}

@@ -5,7 +5,7 @@ use Rattle.std.proofs.Math.Decide.{dec_lt}
 use Rattle.std.proofs.lemmas.Bool.{not-false}
 use Rattle.lists.specs.Lists.{none}
 use Rattle.rules.specs.Values.{nobody}
-use Rattle.rules.specs.Model.{last_number, Empty, Sending, Receiving, Model, thread}
+use Rattle.rules.specs.Model.{last_number, Empty, Receiving, Model, thread}
 use Rattle.rules.specs.Rules.{place_of, dispatched, act, refusal, next}
 use Rattle.rules.specs.Consistent.{Fits, Consistent}
 use Rattle.rules.specs.declared.Number.{Number}

@@ -132,11 +132,14 @@ returned m S K n h q l of r i j to =
   where
     k : Model
     k = end n m
+
     D : Dropped m (place_of m n) k
     D = family_ends m S K n h
+
     fared : lives_at k r ≡ true → Fared (thread m r) (thread k r)
     fared t = (carried Sound lives_at above end_one places all_places child_of ends (λ a b s. Fared (thread a s) (thread b s)) (λ a s. same refl)
         (λ a b c s. fared_then (thread a s) (thread b s) (thread c s)) fared_one D.turns.0 m k S D.turns.1 r t).1
+
     -- it does not wait on: whom a sender has for partner lives, and the number of q is nobody's
     unserved : thread k r ≡ thread m r → ⊥
     unserved e =
@@ -155,15 +158,19 @@ returned_in_turn l m k S T q h r i j to =
   where
     Sk : Sound k
     Sk = (chained Sound lives_at above end_one places all_places child_of ends (λ _ _. Unit {0}) (λ _ _. tt) (λ _ _ _ _ _ _ _ _. tt) (λ _ _ _ _. tt) l m k S T).0
+
     fared : lives_at k r ≡ true → Fared (thread m r) (thread k r)
     fared t = (carried Sound lives_at above end_one places all_places child_of ends (λ a b s. Fared (thread a s) (thread b s)) (λ a s. same refl)
         (λ a b c s. fared_then (thread a s) (thread b s) (thread c s)) fared_one l m k S T r t).1
+
     number : (thread k q).number ≡ (thread m q).number
     number = (carried Sound lives_at above end_one places all_places child_of ends (λ a b s. (thread b s).number ≡ (thread a s).number) (λ a s. refl)
         (λ a b c s f g. g ∙ f) (λ a Sa p g s n _. (one_ends a Sa p g).numbers s n) l m k S T q h).1
+
     -- nobody sends to itself
     other : r ≢ q
     other e = (S.fits r).apart (λ z. omega arith) (λ z. omega arith) (to ∙ ap (λ (p : ℕ). (thread m p).number) (sym e))
+
     unserved : thread (end_one q k) r ≡ thread m r → ⊥
     unserved e =
         let W = one_ends k Sk q h in

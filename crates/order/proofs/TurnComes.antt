@@ -1,19 +1,18 @@
 -- Every turn comes: in a consistent nucleus a ready thread with k ahead of it runs by the (k + 1)th slice end that acts, or is ended first,
 -- whatever events come between.
-use Rattle.std.specs.Prelude.{ℕ, suc, ◌+◌, ◌≤◌, ◌<◌, ◌≡◌, refl, ◌≢◌, ◌⊎◌, List, [], ◌∷◌, Bool, true, false, cond, not, take, drop, eqb}
+use Rattle.std.specs.Prelude.{ℕ, suc, ◌+◌, ◌≤◌, ◌<◌, ◌≡◌, refl, ◌≢◌, ◌⊎◌, List, [], ◌∷◌, Bool, true, false, cond, not, eqb}
 use Rattle.std.proofs.Common.{sym, ap, ◌∙◌, inl, inr, ⊎_elim, arith, get_or-set_same, eqb-true, eq-eqb, ne_eqb}
 use Rattle.std.proofs.Math.Decide.{ℕ_discrete}
 use Rattle.std.proofs.lemmas.Bool.{eqb-false}
-use Rattle.lists.specs.Lists.{none, bit, count}
+use Rattle.lists.specs.Lists.{none, count}
 use Rattle.lists.specs.Laws.{by_test}
 use Rattle.rules.specs.Values.{nobody}
-use Rattle.rules.specs.Model.{places, Empty, Running, Ready, Model, ready, thread, line}
-use Rattle.rules.specs.Rules.{place_of, idle, stands, starts, dispatched, choice, in_use, not_live, act, refusal, next, after}
+use Rattle.rules.specs.Model.{places, Empty, Running, Model, ready, thread, line}
+use Rattle.rules.specs.Rules.{place_of, idle, stands, starts, dispatched, in_use, not_live, act, refusal, next}
 use Rattle.rules.specs.Consistent.{Fits, Consistent}
 use Rattle.rules.specs.declared.Number.{Number}
 use Rattle.rules.specs.declared.Event.{Event}
 use Rattle.rules.specs.declared.Event.TheVariants.{Create, Send, Receive, Reply, End, WaitClock, SliceEnd, Tick, WaitDevice, Interrupt}
-use Rattle.rules.specs.declared.Choice.TheVariants.{Run}
 use Rattle.order.specs.Sound.{Sound, small, sound, kin}
 use Rattle.order.specs.Places.{elsewhere, place_only}
 use Rattle.order.specs.Ahead.{ahead, ahead_past}
@@ -46,6 +45,7 @@ queued_on m a p n k Q w = record {
 module _ (ends : Type 0) (m : Model) (S : Sound m) (p n k : ℕ) (Q : Queued m p n k) where
   is_place : p < places
   is_place = let st = Q.standing in small m S p (omega arith)
+
   -- the front of ready is started: it is the thread itself, or one ahead of it
   started : (l : List ℕ) → line m ready ≡ l → Fate ends (starts l m) p n k 1
   started [] e = absurd (let c : count p (line m ready) ≡ 1 = S.stood p ready ∙ rw Q.standing in let z : ◌≡◌ {A = ℕ} 0 1 = rw e at c in omega arith)
@@ -65,12 +65,15 @@ module _ (ends : Type 0) (m : Model) (S : Sound m) (p n k : ℕ) (Q : Queued m p
           behind = rw (get_or-set_same m.lines ready l [] (omega (arith, S.lines))) (omega arith);
         })
   ]
+
   -- a thread that has come one nearer has come no further back
   nearer : (a : Model) → Fate ends a p n k 1 → Fate ends a p n k 0
   nearer a (now s) = now s
   nearer a (later j h R) = later j (omega arith) R
+
   dispatch_idle : m.running ≡ none → Fate ends (dispatched m) p n k 1
   dispatch_idle e = rw (eq-eqb m.running none e) (started (line m ready) refl)
+
   dispatch_any : Fate ends (dispatched m) p n k 0
   dispatch_any = go (idle m) refl
     where
@@ -88,6 +91,7 @@ module _ (m : Model) (S : Sound m) (p n k : ℕ) (Q : Queued m p n k) where
       let u : in_use (dispatched a) n ≡ false = ap (λ (q : ℕ). not (eqb q none)) (same_place (dispatch_kept a D.sound) n) ∙ ap (in_use a) (sym Q.number) ∙ D.number p l w.1 in
       let at : place_of m n ≡ p = ap (place_of m) (sym Q.number) ∙ place_only m S p l in
       ((t, refl, rw at w.0), rw u)
+
   -- or it goes on waiting
   waits : (e : Event) → Accepted e m → Done e m → Waits m (act e m) p ⊎ (EndsOver n e m × (not_live (dispatched (act e m)) n ≡ true))
   waits Create A D = inl (D.waits p (elsewhere m A p (let st = Q.standing in omega arith)) Q.standing)
@@ -120,18 +124,23 @@ module _ (e : Event) (m : Model) (C : Consistent m) (f : Fits e) (p n k : ℕ) (
     where
       A : Accepted e m
       A = accepted e m z
+
       D : Done e m
       D = does e m (sound m C) (kin m C) f z
+
       S' : Sound (act e m)
       S' = acts_sound e m D
+
       go : Waits m (act e m) p ⊎ (EndsOver n e m × (not_live (dispatched (act e m)) n ≡ true))
           → (acting e m ≡ 0) ⊎ ((refusal e m ≡ 0) × ((act e m).running ≡ none) × (acting e m ≡ 1)) → Fate (Ends n (e ∷ []) m) (dispatched (act e m)) p n k (acting e m)
       go (inl w) (inl v) = rw v (dispatch_any (Ends n (e ∷ []) m) (act e m) S' p n k (queued_on m (act e m) p n k Q w))
       go (inl w) (inr v) = rw v.2 (dispatch_idle (Ends n (e ∷ []) m) (act e m) S' p n k (queued_on m (act e m) p n k Q w) v.1)
       go (inr d) (inl v) = now (inr ((d.0, z), d.1))
       go (inr d) (inr v) = now (inr ((d.0, z), d.1))
+
   refused : (refusal e m ≡ 0 → ⊥) → acting e m ≡ 0
   refused h = ⊎_elim (λ v. v) (λ v. absurd (h v.0)) (worth e m)
+
   fate : Fate (Ends n (e ∷ []) m) (next e m) p n k (acting e m)
   fate = go (eqb (refusal e m) 0) refl
     where
@@ -140,7 +149,7 @@ module _ (e : Event) (m : Model) (C : Consistent m) (f : Fits e) (p n k : ℕ) (
       go false z = let c = refused (eqb-false _ _ z) in later k (omega arith) Q
 
 -- ---- the theorem
-pub turn_comes : (es : List Event) (m : Model) → Consistent m → AllFit es → (p n k : ℕ) → Queued m p n k → k ≤ slices es m → Comes n k es m
+pub turn_comes : (es : List Event) (m : Model) → Consistent m → AllFit es → (p n k : ℕ) → Queued m p n k → k < slices es m → Comes n k es m
 turn_comes [] m C f p n k Q h = absurd (omega arith)
 turn_comes (e ∷ es) m C f p n k Q h = go (fate e m C f.0 p n k Q) (turn_comes es (next e m) (keeps e m C f.0) f.1 p n)
   where

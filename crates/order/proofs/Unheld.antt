@@ -36,6 +36,7 @@ gives_unheld m C z =
 module _ (m k : Model) (r n : ℕ) where
   kept_number : Kept m k → NumberAt k r n → NumberAt m r n
   kept_number K h = (lives_at_lem m r (sym (K.lives r) ∙ at_lives k r h.0), sym (K.numbers r) ∙ h.1)
+
   swapped_number : (p : ℕ) (t : Thread) → Swap m p t k → NumberAt k r n → NumberAt m r n ⊎ ((t.standing ≢ Empty) × (t.number ≡ n))
   swapped_number p t W h = elim (ℕ_discrete r p) [
     | yes e ↦ let i : NumberAt k p n = rw e at h in inr (rw W.own at i)
@@ -45,6 +46,7 @@ module _ (m k : Model) (r n : ℕ) where
 module _ (e : Event) (m : Model) (C : Consistent m) (f : Fits e) (p n : ℕ) (low : n ≤ last_number) (H : HeldAt (next e m) p n) where
   was_held : (thread m p).who ≡ n → HeldAt m p n
   was_held w = ((λ z. let v : (thread m p).who ≡ nobody = ap (λ (t : Thread). t.who) (((sound m C).fits p).clean z) in omega arith), w)
+
   was_barred : barred m n ≡ true
   was_barred =
       by_test (barred m n)
@@ -56,6 +58,7 @@ module _ (e : Event) (m : Model) (C : Consistent m) (f : Fits e) (p n : ℕ) (lo
       (λ v. (free p).1 (was_held (v.1 ∙ h)))
       (λ v. ⊎_elim (λ y. omega arith) (λ a. (free a.1.0).0 (a.1.1, a.1.2 ∙ h)) v)
       (answerer e m C p)))
+
   module _ (r : ℕ) where
     -- an event gives nobody a number but that of a new thread
     acted : (e : Event) → Done e m → NumberAt (act e m) r n → NumberAt m r n ⊎ (next_number m ≡ n)
@@ -69,6 +72,7 @@ module _ (e : Event) (m : Model) (C : Consistent m) (f : Fits e) (p n : ℕ) (lo
     acted Tick D h = inl (kept_number m (act Tick m) r n D.kept h)
     acted (WaitDevice i) D h = inl (kept_number m (act (WaitDevice i) m) r n D.kept h)
     acted (Interrupt s w) D h = inl (kept_number m (act (Interrupt s w) m) r n D.kept h)
+
     had_it : NumberAt (next e m) r n → NumberAt m r n
     had_it = go (eqb (refusal e m) 0) refl
       where

@@ -1,24 +1,12 @@
 -- What each accepted event does to a Sound nucleus, before the front of ready is started: a Step, in which nobody comes or goes,
 -- for create a Swap of one place, and for end a family is dropped.
-use Rattle.std.specs.Prelude.{◌≡◌}
 use Rattle.rules.specs.Model.{Model}
-use Rattle.rules.specs.Rules.{place_of, next_number, newcomer, creator, empty_place, act, refusal}
-use Rattle.rules.specs.Consistent.{Fits, ListensToLive}
+use Rattle.rules.specs.Rules.{place_of, next_number, newcomer, creator, empty_place, act}
 use Rattle.rules.specs.declared.Event.{Event}
 use Rattle.rules.specs.declared.Event.TheVariants.{Create, Send, Receive, Reply, End, WaitClock, SliceEnd, Tick, WaitDevice, Interrupt}
-use Rattle.order.specs.Sound.{Sound, Kin}
 use Rattle.order.specs.Moves.{Step}
 use Rattle.order.specs.Fill.{Swap}
-
-use Rattle.order.specs.Send.{sends}
-use Rattle.order.specs.Receive.{receives}
-use Rattle.order.specs.Reply.{replies}
 use Rattle.order.specs.EndFamily.{Dropped}
-use Rattle.order.specs.Clock.{rests, slice_ends, ticks}
-use Rattle.order.specs.Devices.{attends, interrupts}
-use Rattle.order.specs.KinKept.{kin_kept}
-
-use Rattle.order.specs.Accepted.{Accepted, accepted}
 
 abbrev pub Done : Event → Model → Type 0
 Done Create m = Swap m (empty_place m) (newcomer (next_number m) (creator m)) (act Create m)

@@ -1,21 +1,12 @@
 -- What the end of a family comes to, by the rules' own end: `deep_enough`, `orphans_none`, `family_only`, and that what is consistent stays so.
-use Rattle.std.specs.Prelude.{ℕ, ◌≤◌, ◌<◌, ◌≡◌, refl, ◌≢◌, ◌⊎◌, List, true, false}
-use Rattle.std.proofs.Common.{sym, ap, ◌∙◌, inl, inr, arith}
-use Rattle.lists.specs.Lists.{none}
-use Rattle.lists.specs.Laws.{by_test, never}
+use Rattle.std.specs.Prelude.{ℕ, ◌≡◌, ◌≢◌, ◌⊎◌, List, false}
 use Rattle.kin.specs.Climb.{climb}
-use Rattle.kin.specs.Family.{OneByOne, all_gone, rooted_gone}
-use Rattle.kin.specs.Family
-use Rattle.kin.specs.Carried.{carried, chained}
-use Rattle.rules.specs.Model.{places, Empty, Ready, Model, thread, all_places, lives_at, live}
-use Rattle.rules.specs.Rules.{place_of, in_use, child_of, end_one, end_down, end}
+use Rattle.kin.specs.Family.{OneByOne}
+use Rattle.rules.specs.Model.{Empty, Ready, Model, thread, lives_at}
+use Rattle.rules.specs.Rules.{in_use, end_one}
 use Rattle.rules.specs.Consistent.{above, ListensToLive}
-use Rattle.order.specs.Sound.{Live, Sound, Kin, small}
-use Rattle.order.specs.Places.{lives_at_lem, at_lives, at_empty, placed, place_only, unused, not_in_use}
-use Rattle.order.specs.Moves.{Waits, waits_then}
-use Rattle.order.specs.Above.{above_lives}
-use Rattle.order.specs.EndOne.{one_ends, ends}
-use Rattle.order.specs.Recursion.{Ended, down_step, no_ring, may_end, down_ends}
+use Rattle.order.specs.Sound.{Sound, Kin}
+use Rattle.order.specs.Moves.{Waits}
 
 -- parents lead from r to p; and every thread is of its own family
 abbrev pub Of : Model → ℕ → ℕ → Type 0

@@ -1,22 +1,6 @@
 -- Ready, while an event acts: what stays of it, in its order, and behind that those who join.
-use Rattle.std.specs.Prelude.{ℕ, ◌≡◌, refl, ◌≢◌, List, [], ◌∷◌, ◌++◌, true, false, eqb}
-use Rattle.std.proofs.Common.{sym, arith, get_or-set_same, get_or-set_other, eqb-true, eq-eqb}
-use Rattle.std.proofs.Math.Path.{subst⁻¹}
-use Rattle.std.proofs.Math.Decide.{ℕ_discrete}
-use Rattle.lists.specs.Lists.{bit, count, among, without}
-use Rattle.lists.specs.Laws.{by_test, never}
-use Rattle.lists.specs.Counts.{count_append, none_among, among_some}
-use Rattle.lists.specs.Without.{without_append, without_behind, without_other}
-use Rattle.lists.specs.Tables.{bit_low}
-use Rattle.rules.specs.Model.{Empty, Running, Ready, Sending, Waiting, AtDevice, Model, ready, clock, device, inbox, thread, line, all_places}
-use Rattle.rules.specs.Rules.{place_of, leave, out_of_line, end_at, idle, starts, dispatched}
-use Rattle.rules.specs.Consistent.{belongs}
-use Rattle.order.specs.Sound.{Sound, member}
-use Rattle.order.specs.Stood.{line_distinct}
-use Rattle.order.specs.Ahead.{same_front}
-use Rattle.order.specs.Moves.{Waits, Step}
-use Rattle.order.specs.HandBack.{handed_all}
-use Rattle.order.specs.Order.{written_at}
+use Rattle.std.specs.Prelude.{ℕ, ◌≡◌, List, [], ◌∷◌, ◌++◌, true, false}
+use Rattle.lists.specs.Lists.{among}
 
 -- ---- the words of the theorem
 

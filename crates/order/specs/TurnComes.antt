@@ -1,29 +1,15 @@
 -- Every turn comes: in a consistent nucleus a ready thread with k ahead of it runs by the (k + 1)th slice end that acts, or is ended first,
 -- whatever events come between.
-use Rattle.std.specs.Prelude.{ℕ, suc, ◌+◌, ◌≤◌, ◌<◌, ◌≡◌, refl, ◌≢◌, ◌⊎◌, List, [], ◌∷◌, Bool, true, false, cond, not, take, drop, eqb}
-use Rattle.std.proofs.Common.{sym, ap, ◌∙◌, inl, inr, ⊎_elim, arith, get_or-set_same, eqb-true, eq-eqb, ne_eqb}
-use Rattle.std.proofs.Math.Decide.{ℕ_discrete}
-use Rattle.std.proofs.lemmas.Bool.{eqb-false}
-use Rattle.lists.specs.Lists.{none, bit, count}
-use Rattle.lists.specs.Laws.{by_test}
-use Rattle.rules.specs.Values.{nobody}
-use Rattle.rules.specs.Model.{places, Empty, Running, Ready, Model, ready, thread, line}
-use Rattle.rules.specs.Rules.{place_of, idle, stands, starts, dispatched, choice, in_use, not_live, act, refusal, next, after}
-use Rattle.rules.specs.Consistent.{Fits, Consistent}
+use Rattle.std.specs.Prelude.{ℕ, suc, ◌+◌, ◌≤◌, ◌≡◌, ◌⊎◌, List, [], ◌∷◌, true, not, take, drop}
+use Rattle.lists.specs.Lists.{bit}
+use Rattle.rules.specs.Model.{Ready, Model, ready, thread, line}
+use Rattle.rules.specs.Rules.{place_of, idle, choice, not_live, refusal, next, after}
 use Rattle.rules.specs.declared.Number.{Number}
 use Rattle.rules.specs.declared.Event.{Event}
 use Rattle.rules.specs.declared.Event.TheVariants.{Create, Send, Receive, Reply, End, WaitClock, SliceEnd, Tick, WaitDevice, Interrupt}
 use Rattle.rules.specs.declared.Choice.TheVariants.{Run}
-use Rattle.order.specs.Sound.{Sound, small, sound, kin}
-use Rattle.order.specs.Places.{elsewhere, place_only}
-use Rattle.order.specs.Ahead.{ahead, ahead_past}
-use Rattle.order.specs.Moves.{beside, here, Waits}
-use Rattle.order.specs.Dispatch.{dispatch_kept}
-use Rattle.order.specs.KinKept.{same_place}
+use Rattle.order.specs.Ahead.{ahead}
 use Rattle.order.specs.EndFamily.{Of}
-use Rattle.order.specs.Accepted.{Accepted, accepted}
-use Rattle.order.specs.Acts.{Done}
-use Rattle.order.specs.Keeps.{AllFit}
 
 -- ---- the words of the theorem
 
