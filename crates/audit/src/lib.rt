@@ -215,8 +215,7 @@ fn enter(b: &Blocks, who: &mut [u8; ENTRIES], p: Place) -> bool
         return true;
     }
     let n = wide(b[table::NUMBER + at]);
-    let taken = who[n] != NONE;
-    if taken {
+    if who[n] != NONE {
         return false;
     }
     who[n] = p.0;
@@ -369,8 +368,7 @@ pub fn consistent_by(strict: bool, b: &Blocks, w: &Words, l: &Links, d: Desk) ->
     ensures { Tells result (StandsBy strict d b.now w.now l.now) (StandsBy strict d b.now w.now l.now → ⊥) }
 {
     let seats = lines::survey(l);
-    let untidy = !seats.tidy;
-    if untidy {
+    if !seats.tidy {
         return false;
     }
     let at = seats.at;
