@@ -15,12 +15,14 @@ use Rattle.nucleus.specs.declared.State.{State}
 use Rattle.nucleus.specs.declared.Reply.{Reply}
 use Rattle.saving.specs.Format.{encode}
 use Rattle.saving.specs.Editions.{known_few}
-use Rattle.saving.specs.Longest.{longest_image, longest, longest_as}
+use Rattle.saving.specs.Longest.{longest_image}
+use Rattle.saving.proofs.Longest.{longest, longest_as}
 use Rattle.saving.specs.Save.{Saves, inconsistent, short, saved}
 use Rattle.loading.specs.Loads.{Loads}
-use Rattle.loading.specs.Accepts.{refuses_of, accepted_of}
+use Rattle.loading.proofs.Accepts.{refuses_of, accepted_of}
 use Rattle.loading.specs.declared.Loaded.{Loaded}
-use Rattle.updating.specs.Updates.{Updates, update_refuses, update_takes}
+use Rattle.updating.specs.Updates.{Updates}
+use Rattle.updating.proofs.Updates.{update_refuses, update_takes}
 use Rattle.image.specs.Locates.{Locates, spotted, missing, unread as unseen}
 use Rattle.image.specs.Locating.{locate_within}
 use Rattle.journal.specs.Format.{read_at}
@@ -29,7 +31,8 @@ use Rattle.journal.specs.declared.Read.TheVariants.{Record}
 use Rattle.logging.specs.Log.{limit, records_in}
 use Rattle.logging.specs.Promise.{Came, Replays, inconsistent as torn, too_long, came}
 use Rattle.logging.specs.declared.Replayed.{Replayed}
-use Rattle.logging.specs.Reading.{Stops, at_end, cut_short, unknown, past_end}
+use Rattle.logging.specs.Reading.{Stops}
+use Rattle.logging.proofs.Reading.{at_end, cut_short, unknown, past_end}
 use Rattle.board.specs.Promise.{placed, declined, acted, bad_code, taken, step_on, Boards, unloaded, stepped, unplayed, kept, replay_on, Brings, unread, played, fresh_on, uncarried, carried_on, Carries, untaken, took_over}
 use Rattle.board.specs.declared.Told.{Told}
 use Rattle.board.specs.declared.Brought.{Brought}

@@ -1,3 +1,2 @@
 pub mod Promise
 pub mod Answers
-pub mod Once

@@ -10,10 +10,7 @@ pub mod Owed
 pub mod Lengths
 pub mod Longest
 pub mod Reached
-pub mod Queues
-pub mod Once
 pub mod Example
 pub mod Writing
 pub mod Puts
 pub mod Loops
-pub mod Telling

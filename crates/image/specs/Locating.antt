@@ -8,14 +8,14 @@ use Rattle.order.specs.Sound.{sound, small}
 use Rattle.order.specs.Places.{lives_at_lem}
 use Rattle.nucleus.specs.View.{view}
 use Rattle.saving.specs.Format.{inbox_length_at, body_length, live_places, body_of, bodies}
-use Rattle.saving.specs.Longest.{live_distinct, body_length_lem}
+use Rattle.saving.proofs.Longest.{live_distinct, body_length_lem}
 use Rattle.saving.specs.declared.format.Row.{Row}
 use Rattle.loading.specs.Positions.{offset, live_in}
 use Rattle.loading.specs.Finds.{live_is, row_is, body, body_in_lem, inbox_length}
 use Rattle.loading.specs.Entry.{live_low, split, p_is, n_is, o_is, body_at}
 use Rattle.loading.specs.Loads.{row_at, ImageAs, Loads}
-use Rattle.loading.specs.Injective.{entry_of, image_one}
-use Rattle.loading.specs.Accepts.{accepted_of, refuses_of, refuses_not, refuses_one}
+use Rattle.loading.proofs.Injective.{entry_of, image_one}
+use Rattle.loading.proofs.Accepts.{accepted_of, refuses_of, refuses_not, refuses_one}
 use Rattle.image.specs.Locates.{Spotted, Absent, Locates, spotted, missing, unread, EntryFor}
 use Rattle.loading.specs.declared.Loaded.{Loaded}
 

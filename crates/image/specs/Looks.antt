@@ -7,8 +7,8 @@ use Rattle.saving.specs.Format.{body_of}
 use Rattle.saving.specs.declared.format.Row.{Row}
 use Rattle.loading.specs.Finds.{row_is, place_is, offset_is}
 use Rattle.loading.specs.Entry.{body_at}
-use Rattle.loading.specs.Injective.{image_one}
-use Rattle.loading.specs.Accepts.{refuses_not}
+use Rattle.loading.proofs.Injective.{image_one}
+use Rattle.loading.proofs.Accepts.{refuses_not}
 use Rattle.image.specs.Locates.{Spotted, Absent, Locates, spotted, missing, unread}
 use Rattle.image.specs.Locating.{spotted_lives, locate_body, locate_within, locate_one}
 use Rattle.image.specs.Sees.{Found, Sees, found, absent, refused, Lies}

@@ -12,8 +12,8 @@ use Rattle.rules.specs.Model.{places, Model, inbox, thread, line, all_places, li
 use Rattle.order.specs.Sound.{old_of}
 use Rattle.order.specs.Places.{lives_at_lem}
 use Rattle.saving.specs.Format.{head_length, entry_length, inbox_length_at, body_length, live_places}
-use Rattle.saving.specs.Held.{lives_held}
-use Rattle.saving.specs.Longest.{live_length, live_distinct}
+use Rattle.saving.proofs.Held.{lives_held}
+use Rattle.saving.proofs.Longest.{live_length, live_distinct}
 use Rattle.saving.specs.declared.format.Row.{Row}
 use Rattle.loading.specs.Loads.{ImageAsBy}
 use Rattle.loading.specs.Positions.{offset, live_in}

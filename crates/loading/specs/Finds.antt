@@ -15,7 +15,7 @@ use Rattle.order.specs.Sound.{old_of}
 use Rattle.saving.specs.Format.{row_of, lengths_at, total_at, head_length, entry_length, inbox_length_at, parent_at, body_length, live_places, body_of, bodies, joined, queue_lengths, tail, head, encode_as}
 use Rattle.saving.specs.Editions.{known_few, known_row}
 use Rattle.saving.specs.Queues.{queues_from, queues_start, queues_step, lengths_length, length_found}
-use Rattle.saving.specs.Longest.{encode_length, longest_as}
+use Rattle.saving.proofs.Longest.{encode_length, longest_as}
 use Rattle.saving.specs.declared.format.Row.{Row}
 use Rattle.loading.specs.Loads.{row_at, ImageAsBy}
 use Rattle.loading.specs.Positions.{offset, behind, lengths_at_lem, queues_at, entry_at, body_at}

@@ -5,11 +5,7 @@ pub mod Finds
 pub mod Entry
 pub mod Joins
 pub mod Fills
-pub mod Enters
 pub mod Judges
-pub mod Injective
 pub mod Accepts
-pub mod RoundTrip
 pub mod Counted
-pub mod Parents
 pub mod Named

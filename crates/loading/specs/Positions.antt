@@ -13,7 +13,7 @@ use Rattle.lists.specs.Only.{only_out, only_in}
 use Rattle.lists.specs.Bytes.{two_bytes}
 use Rattle.rules.specs.Model.{places, Model, thread, all_places, lives_at, live}
 use Rattle.saving.specs.Format.{lengths_at, head_length, entry_length, live_places, body_of, bodies, contents, queue_lengths, queues, first_body, tail, head, encode_as}
-use Rattle.saving.specs.Longest.{live_length, contents_length, head_length_lem}
+use Rattle.saving.proofs.Longest.{live_length, contents_length, head_length_lem}
 use Rattle.saving.specs.Parts.{bodies_append, contents_append}
 use Rattle.saving.specs.declared.format.Row.{Row}
 

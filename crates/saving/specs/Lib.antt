@@ -1,6 +1,5 @@
 pub mod Format
 pub mod Editions
-pub mod Held
 pub mod Layout
 pub mod Queues
 pub mod Longest
@@ -11,4 +10,3 @@ pub mod Places
 pub mod Written
 pub mod Save
 pub mod Saving
-pub mod Reached

@@ -18,23 +18,22 @@ use Rattle.nucleus.specs.View.{Shows}
 use Rattle.saving.specs.Format.{queues_of, parents_of, places_of, row_of, Known, Holds, queues_in, encode_as}
 use Rattle.saving.specs.Editions.{known_of}
 use Rattle.loading.specs.Loads.{Foreign, Loads, OldImage}
-use Rattle.loading.specs.Injective.{image_one}
+use Rattle.loading.proofs.Injective.{image_one}
 use Rattle.loading.specs.Judges.{head_image}
-use Rattle.loading.specs.Accepts.{refuses}
+use Rattle.loading.proofs.Accepts.{refuses}
 use Rattle.loading.specs.declared.Loaded.{Loaded}
-use Rattle.updating.specs.Updates.{Updates, update_takes, update_gives, old_image}
+use Rattle.updating.specs.Updates.{Updates}
 
 -- 0 receives from 1
 abbrev listener : Thread
 listener = record { number = 0; standing = Receiving; partner = 1; word = 0; code = 0; who = nobody; answer = 0; parent = nobody }
 
 -- 1 is the last number given, and nobody has it
-abbrev deserter : Model
+abbrev pub deserter : Model
 deserter = record { last = 1; running = none; threads = listener ∷ replicate (places - 1) vacant; lines = replicate line_count [] }
 
 -- ---- the old rules call it consistent, and the rules as they are do not
-
-others : (p : ℕ) → thread deserter (suc p) ≡ vacant
+pub others : (p : ℕ) → thread deserter (suc p) ≡ vacant
 others p = all_same (places - 1) p vacant
 
 abbrev no_places : List ℕ
@@ -80,19 +79,11 @@ sound = record {
 parentless : (p : ℕ) → (thread deserter p).parent ≡ nobody
 parentless = each (λ t. t.parent ≡ nobody) refl refl
 
-consistent : OldConsistent deserter
+pub consistent : OldConsistent deserter
 consistent = old_whole deserter sound (λ _. refl) (kin_older deserter sound parentless)
 
-nobody_heard : ListensToLive deserter → ⊥
-nobody_heard L = let l = L 0 refl (omega arith) in dead l.0 l.1 l.2
-  where
-    dead : (r : ℕ) → (thread deserter r).standing ≢ Empty → (thread deserter r).number ≡ 1 → ⊥
-    dead zero h e = omega arith
-    dead (suc r) h e = (rw (others r) at h) refl
-
 -- ---- its image (25 bytes), and the one that is saved after the update (74 bytes)
-
-abbrev before : List ℕ
+abbrev pub before : List ℕ
 before =
     1 ∷ 1 ∷ 255 ∷ 1 ∷ 0 ∷ 0 ∷ 25 ∷ 0
     ∷ 0 ∷ 0 ∷ 12 ∷ 0
@@ -116,13 +107,9 @@ alone (suc p) h = rw (others p)
 holds : Holds (row_of 1) deserter
 holds = record { queues = λ q _ _. lineless q; parents = λ _. parentless; places = λ p h _. alone p h }
 
-image : OldImage deserter before
+pub image : OldImage deserter before
 unfolding encode_as queues_of parents_of queues_in all_places tally
 image = (row_of 1, record { known = old_known; consistent = consistent; holds = holds; bytes = refl })
-
--- no consistent state has it
-foreign : Foreign before
-foreign m J = nobody_heard (subst ListensToLive (image_one (old_image J) image) J.1.consistent.listens)
 
 -- ---- the case
 
@@ -143,13 +130,3 @@ pub record SeenOfUpdate : Type 0 where
   pub choice_before : choice deserter ≡ Stuck
   pub choice_behind : choice (updated deserter) ≡ Run (record { 0 = 0 })
   pub thread_behind : thread (updated deserter) 0 ≡ record { number = 0; standing = Running; partner = nobody; word = 0; code = 16; who = 1; answer = 0; parent = nobody }
-
-pub counted_update : SeenOfUpdate
-unfolding all_places tally outside
-counted_update = record {
-  load_refuses = λ r L. (refuses L).1 (head_image image) foreign;
-  update_takes_it = λ r U. ((update_takes U).1 deserter image, update_gives deserter image U);
-  choice_before = refl;
-  choice_behind = refl;
-  thread_behind = refl;
-}

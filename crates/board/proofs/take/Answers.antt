@@ -2,7 +2,7 @@
 use mathlib.Core.List.{[], ◌∷◌}
 use types.Run.{miss}
 use Rattle.nucleus.specs.View.{view}
-use Rattle.logging.specs.Reading.{stop_or}
+use Rattle.logging.proofs.Reading.{stop_or}
 use Rattle.board.specs.Answers.{take_bad, take_more, take_one}
 use borrow.Author.Rules.{rules}
 use Rattle.board.proofs.take.Goals as goal

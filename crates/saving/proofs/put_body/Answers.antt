@@ -1,6 +1,6 @@
 -- `put_body` meets its contract: nothing for an empty place; else the thread, and behind it the inbox.
 use borrow.Author.Rules.{rules}
-use Rattle.saving.specs.Entries.{body_none, thread_room, inbox_room, body_whole}
+use Rattle.saving.proofs.Entries.{body_none, thread_room, inbox_room, body_whole}
 use Rattle.saving.proofs.put_body.Goals as goal
 
 pub returns-then-t-eq-EMPTY : goal.returns-then-t-eq-EMPTY

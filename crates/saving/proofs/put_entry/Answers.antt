@@ -1,5 +1,5 @@
 -- `put_entry` meets its contract: nothing for an empty place; else an entry, and the next body starts behind this one.
-use Rattle.saving.specs.Entries.{entry_none, entry_room, entry_whole}
+use Rattle.saving.proofs.Entries.{entry_none, entry_room, entry_whole}
 use Rattle.saving.proofs.put_entry.Goals as goal
 
 pub returns-then-t-eq-EMPTY : goal.returns-then-t-eq-EMPTY

@@ -1,5 +1,5 @@
 -- `put_head` meets its contract: four bytes, behind them the lengths, and behind these the total.
-use Rattle.saving.specs.Written.{lengths_room, total_room, head_whole}
+use Rattle.saving.proofs.Written.{lengths_room, total_room, head_whole}
 use Rattle.saving.proofs.put_head.Goals as goal
 
 pub put_lengths-next-requires : goal.put_lengths-next-requires

@@ -1,7 +1,7 @@
 -- `put_inbox` meets its contract: how many places there are, behind it the parent, and behind that the places.
 use Rattle.lists.specs.Sizes.{places}
 use Rattle.lines.specs.Lines.{line_of}
-use Rattle.saving.specs.Entries.{parent_fits, places_fit, inbox_whole, inbox_same_length}
+use Rattle.saving.proofs.Entries.{parent_fits, places_fit, inbox_whole, inbox_same_length}
 use Rattle.saving.proofs.put_inbox.Goals as goal
 
 pub put_parent-first-requires : goal.put_parent-first-requires

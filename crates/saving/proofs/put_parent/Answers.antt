@@ -1,5 +1,5 @@
 -- `put_parent` meets its contract: one byte, or none.
-use Rattle.saving.specs.Entries.{parent_none, parent_room, parent_one}
+use Rattle.saving.proofs.Entries.{parent_none, parent_room, parent_one}
 use Rattle.saving.proofs.put_parent.Goals as goal
 
 pub bounds-out-at : goal.bounds-out-at

@@ -1,5 +1,5 @@
 -- `put_tail` meets its contract: each part is written where the one before it ends.
-use Rattle.saving.specs.Written.{tail_contents, queues_room, bodies_room, tail_whole}
+use Rattle.saving.proofs.Written.{tail_contents, queues_room, bodies_room, tail_whole}
 use Rattle.saving.proofs.put_tail.Goals as goal
 
 pub put_contents-queues-requires : goal.put_contents-queues-requires

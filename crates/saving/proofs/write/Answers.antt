@@ -1,6 +1,6 @@
 -- `write` meets its contract: the parts behind the head, and the head.
 use native.Mathlib.Omega.{arith}
-use Rattle.saving.specs.Written.{write_tail, write_low, write_head, write_whole}
+use Rattle.saving.proofs.Written.{write_tail, write_low, write_head, write_whole}
 use Rattle.saving.proofs.write.Goals as goal
 
 pub put_tail-end-requires : goal.put_tail-end-requires

@@ -1,6 +1,6 @@
 -- `update` meets its contract: load's refusals, or what was loaded, carried over.
-use Rattle.loading.specs.Accepts.{accepted_of}
-use Rattle.updating.specs.Updates.{update_refused, update_done}
+use Rattle.loading.proofs.Accepts.{accepted_of}
+use Rattle.updating.proofs.Updates.{update_refused, update_done}
 use Rattle.updating.proofs.update.Goals as goal
 
 pub returns-then-from-ne-DONE : goal.returns-then-from-ne-DONE

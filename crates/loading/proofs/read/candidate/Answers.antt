@@ -1,6 +1,6 @@
 -- `candidate` meets its contract: the queues and all entries have been read. Assumes nothing.
 use mathlib.Core.Path.{◌∙◌}
-use Rattle.loading.specs.Enters.{candidate_parentless, candidate_beyond, candidate_shows}
+use Rattle.loading.proofs.Enters.{candidate_parentless, candidate_beyond, candidate_shows}
 use Rattle.loading.proofs.read.candidate.Goals as goal
 
 pub returns : goal.returns

@@ -3,7 +3,7 @@ use mathlib.Core.Path.{ap, ◌∙◌}
 use Prim.Native.Nat.{ℕ, ◌+◌, ◌*◌}
 use native.Mathlib.Omega.{arith}
 use Rattle.saving.specs.Format.{entry_length}
-use Rattle.loading.specs.Enters.{entered_no, entered_one}
+use Rattle.loading.proofs.Enters.{entered_no, entered_one}
 use Rattle.loading.proofs.read.enter.Goals as goal
 
 pub returns-then-p-row : goal.returns-then-p-row

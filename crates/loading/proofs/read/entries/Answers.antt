@@ -2,7 +2,7 @@
 use mathlib.Core.Path.{◌≡◌}
 use native.Mathlib.Omega.{arith}
 use borrow.Author.Rules.{rules}
-use Rattle.loading.specs.Enters.{entered_none, entered_more}
+use Rattle.loading.proofs.Enters.{entered_none, entered_more}
 use Rattle.loading.proofs.read.entries.Goals as goal
 
 pub loop-i-init : goal.loop-i-init

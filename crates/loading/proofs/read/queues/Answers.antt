@@ -4,7 +4,7 @@ use Prim.Native.Nat.{ℕ, ◌+◌, ◌*◌}
 use native.Mathlib.Omega.{arith}
 use lib.ListN.{get_or}
 use Rattle.saving.specs.Format.{lengths_at, entry_length}
-use Rattle.loading.specs.Enters.{queues_none, queues_more, queues_read}
+use Rattle.loading.proofs.Enters.{queues_none, queues_more, queues_read}
 use Rattle.loading.proofs.read.queues.Goals as goal
 
 pub loop-q-init : goal.loop-q-init

@@ -3,7 +3,7 @@ use native.Mathlib.Omega.{arith}
 use Rattle.verbs.specs.Steps.{stood}
 use Rattle.verbs.specs.Caller.{caller_place}
 use Rattle.verbs.specs.Address.{seated}
-use Rattle.talk.specs.Receive.{receive_not, receive_busy, receive_0, match_place, received, receives}
+use Rattle.talk.proofs.Received.{receive_not, receive_busy, receive_0, match_place, received, receives}
 use Rattle.talk.proofs.receive.receive.Goals as goal
 
 pub source-code-requires : goal.source-code-requires

@@ -1,6 +1,6 @@
 -- `source` meets its contract: a number that is named is refused as for a send, and any only where nobody runs.
 use native.Mathlib.Omega.{arith}
-use Rattle.talk.specs.Receive.{source_named, source_1, source_0}
+use Rattle.talk.proofs.Received.{source_named, source_1, source_0}
 use Rattle.talk.proofs.receive.source.Goals as goal
 
 pub returns-then-n-ne-NOBODY : goal.returns-then-n-ne-NOBODY

@@ -1,7 +1,7 @@
 -- `take` meets its contract: a leave and two stores are the rule's.
 use native.Mathlib.Omega.{arith}
 use Rattle.verbs.specs.Steps.{stood, heard, left}
-use Rattle.talk.specs.Receive.{took}
+use Rattle.talk.proofs.Received.{took}
 use Rattle.talk.proofs.receive.take.Goals as goal
 
 pub overflow_add-c : goal.overflow_add-c

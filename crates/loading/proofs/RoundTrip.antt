@@ -12,7 +12,7 @@ use Rattle.saving.specs.declared.format.Row.{Row}
 use Rattle.loading.specs.Loads.{Loads}
 use Rattle.loading.specs.Finds.{edition_is}
 use Rattle.loading.specs.Judges.{saved_image}
-use Rattle.loading.specs.Accepts.{accepts, accepted_of, loads_back}
+use Rattle.loading.proofs.Accepts.{accepts, accepted_of, loads_back}
 use Rattle.loading.specs.declared.Loaded.{Loaded}
 
 -- with room for its image, a consistent state is saved with code 0

@@ -9,20 +9,22 @@ use Rattle.rules.specs.Values.{nobody}
 use Rattle.rules.specs.Model.{Code, Model}
 use Rattle.saving.specs.Format.{shortest_head, total_at, head_length}
 use Rattle.loading.specs.Loads.{row_at, Image, Refuses, by_head, by_whole}
-use Rattle.loading.specs.Accepts.{refuses_not, refuses_one}
-use Rattle.loading.specs.Injective.{image_one}
+use Rattle.loading.proofs.Accepts.{refuses_not, refuses_one}
+use Rattle.loading.proofs.Injective.{image_one}
 use Rattle.depot.specs.Report.{Finding, refused, loaded, state_after, text_of}
 use Rattle.depot.specs.Promise.{image_limit, Finds, too_long, unloaded, found, handed, Tells}
-use Rattle.depot.specs.Sheets.{stays}
-use Rattle.depot.specs.Crew.{crew, crew_in, told_back}
-use Rattle.depot.specs.Owed.{owed, loads_in, owed_back}
-use Rattle.depot.specs.Longest.{longest_of, enough, enough_refused}
+use Rattle.depot.proofs.Sheets.{stays}
+use Rattle.depot.specs.Crew.{crew, crew_in}
+use Rattle.depot.proofs.Crew.{told_back}
+use Rattle.depot.specs.Owed.{owed, loads_in}
+use Rattle.depot.proofs.Owed.{owed_back}
+use Rattle.depot.specs.Longest.{longest_of}
+use Rattle.depot.proofs.Longest.{enough, enough_refused}
 use Rattle.depot.specs.declared.Sheet.{Sheet}
 use Rattle.depot.specs.declared.Sheet.TheVariants.{Report, Pay}
 use Rattle.depot.specs.declared.Told.{Told}
 
 -- ---- one outcome
-
 pub finds_one : {image : List ℕ} {x y : Finding} → Finds image x → Finds image y → x ≡ y
 finds_one (too_long h e) (too_long k f) = e ∙ sym f
 finds_one (too_long h e) (unloaded k c R f) = absurd (omega arith)
@@ -76,12 +78,10 @@ module _ {image log out : List ℕ} {m : Model} (I : Image m image) (h : length 
       let l = fits s log B T.finds in
       ap (λ x. take x.0.length x.1) T.told ∙ (handed_fit (text_of s T.finding log) out (omega arith)).1
       ∙ ap (λ (x : Finding). text_of s x log) (finds_one T.finds (found h m I refl))
-
   -- .. off which one reads who lives, at which place, in which standing and with whom; ..
   pub report_tells : {t : Told × List ℕ} → longest_of Report ≤ length out → Tells Report image log out t
       → crew_in (take t.0.length t.1) ≡ crew (state_after m log)
   report_tells k T = ap crew_in (written Report k T) ∙ told_back m log (stays m log I.1.consistent B)
-
   -- .. or every load that waits.
   pub loads_tell : {t : Told × List ℕ} → longest_of Pay ≤ length out → Tells Pay image log out t
       → loads_in (take t.0.length t.1) ≡ owed (state_after m log)

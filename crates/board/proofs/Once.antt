@@ -10,8 +10,8 @@ use Rattle.journal.specs.Format.{read_at}
 use Rattle.journal.specs.declared.Read.{Read}
 use Rattle.journal.specs.declared.Read.TheVariants.{Record, AtEnd, CutShort, UnknownKind, PastEnd}
 use Rattle.saving.specs.Format.{encode}
-use Rattle.loading.specs.Accepts.{refuses_not, refuses_one}
-use Rattle.loading.specs.Injective.{image_one}
+use Rattle.loading.proofs.Accepts.{refuses_not, refuses_one}
+use Rattle.loading.proofs.Injective.{image_one}
 use Rattle.board.specs.Promise.{declined, acted, taken, step_on, Boards, unloaded, stepped, unplayed, replay_on, Brings, unread, played, uncarried, carried_on, Carries, untaken, took_over}
 use Rattle.board.specs.declared.Told.{Told}
 use Rattle.board.specs.declared.Brought.{Brought}

@@ -15,7 +15,7 @@ use Rattle.order.specs.Sound.{inside}
 use Rattle.depot.specs.Text.{ascii}
 use Rattle.depot.specs.Decimal.{decimal}
 use Rattle.depot.specs.Report.{how_many, count_line}
-use Rattle.depot.specs.Sheets.{tally_only}
+use Rattle.depot.proofs.Sheets.{tally_only}
 
 -- lists in which everybody stands as often are as long
 same_length : (xs ys : List ℕ) → ((p : ℕ) → count p xs ≡ count p ys) → length xs ≡ length ys

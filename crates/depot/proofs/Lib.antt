@@ -1,0 +1,10 @@
+pub mod Sheets
+pub mod Longest
+pub mod Telling
+pub mod Loops
+pub mod Crew
+pub mod Owed
+pub mod Once
+pub mod Reached
+pub mod Example
+pub mod Queues

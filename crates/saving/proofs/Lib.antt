@@ -1,0 +1,5 @@
+pub mod Longest
+pub mod Written
+pub mod Reached
+pub mod Held
+pub mod Entries
