@@ -32,7 +32,7 @@ use Rattle.logging.specs.Log.{limit, records_in}
 use Rattle.logging.specs.Promise.{Came, Replays, inconsistent as torn, too_long, came}
 use Rattle.logging.specs.declared.Replayed.{Replayed}
 use Rattle.logging.specs.Reading.{Stops}
-use Rattle.logging.proofs.Reading.{at_end, cut_short, unknown, past_end}
+use Rattle.logging.specs.Reading.Stops.{at_end, cut_short, unknown, past_end}
 use Rattle.board.specs.Promise.{placed, declined, acted, bad_code, taken, step_on, Boards, unloaded, stepped, unplayed, kept, replay_on, Brings, unread, played, fresh_on, uncarried, carried_on, Carries, untaken, took_over}
 use Rattle.board.specs.declared.Told.{Told}
 use Rattle.board.specs.declared.Brought.{Brought}

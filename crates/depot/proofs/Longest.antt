@@ -94,11 +94,13 @@ module _ (m : Model) (C : Consistent m) where
   digits_few p k =
       let n = C.old.numbers p k in
       (omega arith, partner_low (thread m p).standing (thread m p).partner (thread m p).word (C.old.table p k))
+
   report_place : (p : Place) → cond (lives_at m p) (length (line_bytes (line_for Report m p))) 0 + elsewhere (thread m p) ≤ thread_length p
   report_place p =
       by_test (eqb (thread m p).standing Empty)
       (λ t. rw (eqb-true (thread m p).standing Empty t) (omega arith))
       (λ t. let d = digits_few p (eqb-false (thread m p).standing Empty t) in let a = thread_length_lem p (thread m p) d.0 d.1 in rw t (omega arith))
+
   loads_place : (p : Place) → cond (is_load (thread m p)) (length (line_bytes (line_for Pay m p))) 0 + 0 ≤ load_length
   loads_place p =
       by_test (eqb (thread m p).standing Empty)
@@ -107,17 +109,20 @@ module _ (m : Model) (C : Consistent m) where
       let d = digits_few p (eqb-false (thread m p).standing Empty t) in
       let a = load_length_lem (thread m p) d.0 d.1 (C.old.words p).0 in
       by_test (is_load (thread m p)) (λ b. rw b (omega arith)) (λ b. rw b (omega arith)))
+
   report_places : length (text_bytes (place_lines Report m)) + (how_many m Ready + how_many m Waiting + 2 * how_many m Running) ≤ threads_length
   report_places =
       let a = lines_length (lives_at m) (line_for Report m) (λ p. elsewhere (thread m p)) thread_length report_place all_places in
       let b = elsewhere_all m in
       let c = all_threads in
       omega arith
+
   loads_places : length (text_bytes (place_lines Pay m)) ≤ places * load_length
   loads_places =
       let a = lines_length (λ p. is_load (thread m p)) (line_for Pay m) (λ p. 0) (λ p. load_length) loads_place all_places in
       let c = all_loads in
       omega arith
+
   -- whoever runs is one that stands so
   someone : m.running ≢ none → 1 ≤ how_many m Running
   someone k =
@@ -128,6 +133,7 @@ module _ (m : Model) (C : Consistent m) where
       let z = eqb-true (how_many m Running) 0 t in
       never (eq-eqb (thread m m.running).standing Running r) (tally_none places (λ p. eqb (thread m p).standing Running) z m.running l))
       (λ t. let n = eqb-false (how_many m Running) 0 t in omega arith)
+
   -- `next stuck`, or two bytes more where somebody runs
   next_length_lem : length (line_bytes (next_line (choice m))) ≤ next_length + 2 * how_many m Running
   unfolding ascii

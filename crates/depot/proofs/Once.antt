@@ -78,10 +78,12 @@ module _ {image log out : List ℕ} {m : Model} (I : Image m image) (h : length 
       let l = fits s log B T.finds in
       ap (λ x. take x.0.length x.1) T.told ∙ (handed_fit (text_of s T.finding log) out (omega arith)).1
       ∙ ap (λ (x : Finding). text_of s x log) (finds_one T.finds (found h m I refl))
+
   -- .. off which one reads who lives, at which place, in which standing and with whom; ..
   pub report_tells : {t : Told × List ℕ} → longest_of Report ≤ length out → Tells Report image log out t
       → crew_in (take t.0.length t.1) ≡ crew (state_after m log)
   report_tells k T = ap crew_in (written Report k T) ∙ told_back m log (stays m log I.1.consistent B)
+
   -- .. or every load that waits.
   pub loads_tell : {t : Told × List ℕ} → longest_of Pay ≤ length out → Tells Pay image log out t
       → loads_in (take t.0.length t.1) ≡ owed (state_after m log)

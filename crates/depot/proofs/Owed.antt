@@ -1,15 +1,13 @@
 -- WHAT ONE READS OFF THE LOADS SHEET: every send that is not answered yet, with its word, and whether it was received. That is as the state has it.
-use Rattle.std.specs.Prelude.{◌≡◌, refl, List, [], map, Bool, true, false, ◌||◌, ◌≢◌, ℕ, ◌+◌, ◌≤◌, eqb, length, get_or}
+use Rattle.std.specs.Prelude.{◌≡◌, refl, List, [], true, false, ◌||◌, ◌≢◌, ℕ, ◌+◌, ◌≤◌, eqb, length}
 use Rattle.std.proofs.Common.{arith, eq-eqb, eqb-true, leb-true}
 use Rattle.std.proofs.lemmas.Bool.{eqb-false}
-use Rattle.lists.specs.Lists.{only}
 use Rattle.lists.specs.Laws.{by_test}
-use Rattle.rules.specs.Model.{Place, Code, Number, Word, last_number, Empty, Sending, Awaiting, Thread, Model, thread, all_places}
+use Rattle.rules.specs.Model.{Place, Code, last_number, Empty, Sending, Awaiting, Thread, Model, thread}
 use Rattle.rules.specs.Consistent.{as_table, Consistent}
-use Rattle.depot.specs.Text.{ascii, Line}
-use Rattle.depot.specs.Decimal.{value}
+use Rattle.depot.specs.Text.{ascii}
 use Rattle.depot.specs.Digits.{value_decimal}
-use Rattle.depot.specs.Reads.{lines_in, same, picked}
+use Rattle.depot.specs.Reads.{lines_in}
 use Rattle.depot.specs.Report.{is_load, loads, loads_line, load_line, lengthy, last_line, image_refused, state_after, loads_of, refused, loaded}
 use Rattle.depot.specs.Sheets.{Reader}
 use Rattle.depot.proofs.Sheets.{lines_count, text_back, none_back, text_all}

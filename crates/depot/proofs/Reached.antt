@@ -20,12 +20,13 @@ use Rattle.saving.specs.Format.{encode}
 use Rattle.saving.proofs.Longest.{longest}
 use Rattle.loading.specs.Judges.{saved_image}
 use Rattle.logging.specs.Log.{limit, Parsed, and_then, records_in}
-use Rattle.logging.proofs.Reading.{unknown, records_on, records_stop}
+use Rattle.logging.specs.Reading.Stops.{unknown}
+use Rattle.logging.proofs.Reading.{records_on, records_stop}
 use Rattle.logging.proofs.Cut.{fit_append}
 use Rattle.depot.specs.Text.{ascii, line_bytes, text_bytes}
 use Rattle.depot.specs.Decimal.{digits, decimal}
-use Rattle.depot.specs.Report.{Finding, loaded, sheet_lines, state_after, last_line, text_of}
-use Rattle.depot.specs.Promise.{Finds, found}
+use Rattle.depot.specs.Report.{loaded, sheet_lines, state_after, last_line, text_of}
+use Rattle.depot.specs.Promise.{found}
 use Rattle.depot.specs.Lengths.{line_length, text_one, text_both, last_length}
 use Rattle.depot.specs.Longest.{longest_of}
 use Rattle.depot.specs.declared.Sheet.{Sheet}
@@ -139,10 +140,13 @@ reads_from (suc n) pre =
 module _ (s : Sheet) (n : ℕ) (h : n < limit) where
   short : length (waiting n) ≤ limit
   short = let a = length-append {A = ℕ} (replicate n 6) (0 ∷ []) in let b = length-replicate {A = ℕ} n 6 in omega arith
+
   reads : records_in (waiting n) 0 ≡ read 0 n
   reads = reads_from n []
+
   stays : state_after (stand s) (waiting n) ≡ stand s
   stays = rw (le-ltb limit (length (waiting n)) short, reads) (waits_refused n (stand s) (ap (λ f. f.1) (stand_figures s)))
+
   -- with a count of five digits the last line is as long as it can be
   module _ (five : length (decimal n) ≡ 5) where
     last_long : length (line_bytes (last_line (waiting n))) ≡ last_length
@@ -151,6 +155,7 @@ module _ (s : Sheet) (n : ℕ) (h : n < limit) where
         let a = line_length (ascii "log") (decimal n ∷ ascii "records" ∷ decimal n ∷ ascii "bytes" ∷ ascii "unknown" ∷ []) in
         let z : 0 + n ≡ n = omega arith in
         rw (le-ltb limit (length (waiting n)) short, reads, length-replicate {A = Event} n WaitClock, z) (omega arith)
+
     text_long : length (text_of s (loaded (stand s)) (waiting n)) ≡ longest_of s
     unfolding text_of
     text_long =

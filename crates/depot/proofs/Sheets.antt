@@ -20,7 +20,7 @@ use Rattle.depot.specs.Text.{ascii, Line}
 use Rattle.depot.specs.Decimal.{most, decimal}
 use Rattle.depot.specs.Digits.{Glyphs, digits_plain}
 use Rattle.depot.specs.Reads.{lines_in, same, picked, all, is_plain, is_line, all_head, all_tail, read_back}
-use Rattle.depot.specs.Report.{standing_words, next_lines, lengthy, listed, line_for, place_lines, first_line, sheet_lines, last_line, image_refused, lines_of, state_after, text_of, Finding, refused, loaded}
+use Rattle.depot.specs.Report.{standing_words, next_lines, lengthy, listed, line_for, place_lines, first_line, sheet_lines, last_line, lines_of, state_after, text_of, Finding, refused, loaded}
 use Rattle.depot.specs.declared.Sheet.{Sheet}
 use Rattle.depot.specs.declared.Sheet.TheVariants.{Report, Pay}
 use Rattle.depot.specs.Sheets.{Reader}
@@ -114,25 +114,31 @@ no_number_lem n x w h = glyphs_no (decimal n) x w (digits_plain most n) h
 module _ {A : Type 0} {s : Sheet} (R : Reader s A) where
   abbrev pub told : List ℕ → List A
   told text = picked R.knows R.makes (lines_in text)
+
   abbrev pub truth : Model → List A
   truth m = map (R.stands m) (only (listed s m) all_places)
+
   own_lines : (m : Model) → Consistent m → (ls : List Line) → picked R.knows R.makes ls ≡ [] → (ps : List Place)
       → picked R.knows R.makes (map (line_for s m) (only (listed s m) ps) ++ ls) ≡ map (R.stands m) (only (listed s m) ps)
   own_lines m C ls e [] = e
   own_lines m C ls e (p ∷ ps) =
       let ih = own_lines m C ls e ps in
       by_test (listed s m p) (λ t. let w = R.own m C p t in rw (t, w.0, w.1, ih)) (λ t. rw t ih)
+
   -- of a sheet, with any last line that is not a place's
   sheet_back : (m : Model) (x : Choice) (l : Line) → Consistent m → R.knows l ≡ false
       → picked R.knows R.makes (sheet_lines s m x ++ (l ∷ [])) ≡ truth m
   sheet_back m x l C h =
       rw (R.not_first m, append_assoc (place_lines s m) (next_lines s x) (l ∷ [])) (own_lines m C (next_lines s x ++ (l ∷ [])) (R.not_next x l h) all_places)
+
   -- WHAT IS READ OFF A TEXT IS WHAT STANDS IN THE STATE THAT IT TELLS OF; ..
   pub text_back : (m : Model) (log : List ℕ) → Consistent (state_after m log) → told (text_of s (loaded m) log) ≡ truth (state_after m log)
   text_back m log C = rw (lines_back s (loaded m) log) (sheet_back (state_after m log) (choice (state_after m log)) (last_line log) C (R.not_last log))
+
   -- .. nothing where the image was refused; ..
   pub none_back : (c : Code) (log : List ℕ) → told (text_of s (refused c) log) ≡ []
   none_back c log = rw (lines_back s (refused c) log, R.not_refused c)
+
   -- .. and so the same text tells the same.
   pub text_all : (m n : Model) (log log' : List ℕ) → Consistent (state_after m log) → Consistent (state_after n log')
       → text_of s (loaded m) log ≡ text_of s (loaded n) log' → truth (state_after m log) ≡ truth (state_after n log')

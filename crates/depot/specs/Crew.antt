@@ -1,25 +1,11 @@
 -- WHAT ONE READS OFF A REPORT: who lives, at which place, in which standing and with which partner. All of it is as the state has it.
-use Rattle.std.specs.Prelude.{◌≡◌, refl, List, [], ◌∷◌, ◌++◌, map, Bool, true, false, cond, ◌&&◌, ◌||◌, ℕ, ◌+◌, eqb, ltb, length, get_or, drop}
-use Rattle.std.proofs.Common.{sym, ap, ◌∙◌, arith, eqb-true, ltb-true, leb-true}
-use Rattle.std.proofs.Math.Bool.{or-false}
-use Rattle.std.proofs.lemmas.Bool.{not-false}
-use Rattle.lists.specs.Lists.{among, only}
-use Rattle.lists.specs.Laws.{by_test, never, and_left}
-use Rattle.lists.specs.Counts.{some_among}
+use Rattle.std.specs.Prelude.{List, [], ◌∷◌, map, Bool, cond, ℕ, get_or, drop}
+use Rattle.lists.specs.Lists.{only}
 use Rattle.rules.specs.Values.{nobody}
-use Rattle.rules.specs.Model.{Place, Code, Number, devices, last_number, Empty, Running, Ready, Sending, Awaiting, Receiving, Waiting, AtDevice, Thread, vacant, Model, thread, all_places, lives_at, live}
-use Rattle.rules.specs.Consistent.{is_number, as_table, Consistent}
-use Rattle.rules.specs.declared.Choice.{Choice}
-use Rattle.rules.specs.declared.Choice.TheVariants.{Run, Halt, Wait, Stuck}
-use Rattle.order.specs.Sound.{inside}
-use Rattle.order.specs.Places.{every_place, lives_at_lem}
+use Rattle.rules.specs.Model.{Place, Code, Number, Empty, Running, Ready, Sending, Awaiting, Receiving, Waiting, AtDevice, Thread, Model, thread, all_places, lives_at}
 use Rattle.depot.specs.Text.{ascii, Line}
-use Rattle.depot.specs.Decimal.{decimal, value}
-use Rattle.depot.specs.Digits.{value_decimal}
+use Rattle.depot.specs.Decimal.{value}
 use Rattle.depot.specs.Reads.{lines_in, same, picked}
-use Rattle.depot.specs.Report.{standing_words, thread_line, next_lines, lengthy, last_line, image_refused, state_after, report_of, refused, loaded}
-use Rattle.depot.specs.Sheets.{Reader}
-use Rattle.depot.specs.declared.Sheet.TheVariants.{Report}
 
 -- what a line tells of a thread
 pub record Seen : Type 0 where

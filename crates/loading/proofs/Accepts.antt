@@ -16,7 +16,7 @@ use Rattle.loading.specs.Loads.{row_at, head_code, ImageAsBy, ImageBy, ForeignBy
 use Rattle.loading.specs.Judges.{head_image}
 use Rattle.loading.proofs.Injective.{image_one}
 use Rattle.loading.specs.declared.Loaded.{Loaded}
-use Rattle.loading.specs.Accepts.{IsImageBy, IsImage}
+use Rattle.loading.specs.Accepts.{IsImageBy}
 
 -- load gives 0 exactly for these
 pub accepts : {strict : Bool} {s : List ℕ} {r : Loaded} → LoadsBy strict s r → (r.code ≡ 0 → IsImageBy strict s) × (IsImageBy strict s → r.code ≡ 0)

@@ -39,6 +39,7 @@ module _ {row : Row} {s : List ℕ} {q at n : ℕ} {l l₁ l₂ : List ℕ} (U :
       (λ r. ltb r (q + 1)) (lt-ltb q (q + 1) (omega arith)) (λ r d. by_test (ltb r q)
       (λ t. let z = ltb-true r q t in rw t (lt-ltb r (q + 1) (omega arith)))
       (λ t. let z = ltb-false r q t in rw t (le-ltb r (q + 1) (omega (arith, d)))))
+
   pub queues_more : QueuesUpto row s (q + 1) (at + n) l l₂
   unfolding queue_at
   queues_more = rw add-one (record { from = rw (U.from, en) refl; filed = λ strict m I k. rw add-one at (one_queue strict m I k) })
@@ -73,20 +74,28 @@ module _ {row : Row} {s b w l b' w' l' : List ℕ} {i e p n o c : ℕ} (W : Stor
   module _ (strict : Bool) (m : Model) (I : ImageAsBy strict row m s) (g : i < live m) (U : Upto m (take i (live_places m)) b w l) where
     abbrev who : ℕ
     who = get_or (live_places m) i 0
+
     abbrev fore : List ℕ
     fore = take i (live_places m)
+
     abbrev aft : List ℕ
     aft = drop (suc i) (live_places m)
+
     vp : p ≡ who
     vp = ep ∙ ap (λ (x : ℕ). get_or s x 0) ee ∙ p_is I g
+
     vn : n ≡ (thread m who).number
     vn = en ∙ ap (λ (x : ℕ). get_or s (x + 1) 0) ee ∙ n_is I g
+
     vo : o ≡ offset row m fore
     vo = eo ∙ ap (λ (x : ℕ). two_at s (x + 2)) ee ∙ o_is I g
+
     vc : c ≡ length (line m (inbox who))
     vc = ec ∙ ap (λ (x : ℕ). get_or s (x + inbox_length_at) 0) vo ∙ inbox_length I fore who aft (split I g)
+
     vq : queue_count + p ≡ inbox who
     vq = let z = vp in let a = inbox_at who in omega arith
+
     one_more : Upto m (take (suc i) (live_places m)) b' w' l'
     one_more = rw (take-suc (live_places m) i 0 (within I g)) (record {
       seats = seats_more U.seats (rw (vp, vn, vo) at W) (thread_is I fore who aft (split I g));
@@ -94,6 +103,7 @@ module _ {row : Row} {s b w l b' w' l' : List ℕ} {i e p n o c : ℕ} (W : Stor
           filed_more (old_of strict I.consistent) U.filed (inbox who) (let v = p_low I g in let a = inbox_at who in omega arith) (opened_inbox fore who ∙ p_new I g) (rw vq at j)
           (rw (vo, vc) (inbox_is I fore who aft (split I g))) vc (opened (fore ++ (who ∷ []))) (opened_here who fore) (opened_there who fore);
     })
+
   pub entered_one : Entered row s i (i + 1) b w l b' w' l'
   entered_one = rw add-one (record { sized = record { blocks = W.blocks; words = W.words }; parentless = λ z. parentless_more W (rw z); beyond = nobody_more W low; reads = λ strict m I g U. one_more strict m I (omega arith) U })
 
@@ -113,12 +123,16 @@ module _ {row : Row} {s b w l b' w' l₁ l' : List ℕ} {n f y x : ℕ} (e : Emp
         let v = live_length m in
         let z = en ∙ live_is I in
         rw (take_all n (live_places m) (omega arith)) at (E.reads strict m I (omega arith) (record { seats = seats_none m e; filed = q.filed strict m I k }))
+
     is_seen : model_of y x b' w' l' ≡ m
     is_seen = rw (ey ∙ last_is I, ex ∙ running_is I) (all_read (old_of strict I.consistent) all_in)
+
   pub candidate_parentless : row.parents ≡ false → Parentless b'
   candidate_parentless z = E.parentless z (λ p h. ap (λ (x : Thread). x.parent) (e.clean p h))
+
   pub candidate_beyond : NobodyFrom row.places b'
   candidate_beyond = E.beyond (λ p _ h. ap (λ (x : Thread). x.standing) (e.clean p h))
+
   pub candidate_shows : (strict : Bool) (m : Model) → ImageAsBy strict row m s → ShowsBy strict (record { filled = f; last = record { 0 = y }; running = record { 0 = x }; blocks = b'; words = w'; lines = l' }) m
   candidate_shows strict m I = record {
     consists = record {

@@ -30,8 +30,10 @@ entry_of {m = m} I p h l =
 module _ {strict : Bool} {row : Row} {m : Model} {s : List ℕ} (I : ImageAsBy strict row m s) where
   abbrev consistent_in : OldConsistent m
   consistent_in = old_of strict I.consistent
+
   whole_threads : tab places (thread m) ≡ m.threads
   whole_threads = tab_of vacant places m.threads consistent_in.threads
+
   whole_lines : tab line_count (line m) ≡ m.lines
   whole_lines = tab_of [] line_count m.lines consistent_in.lines
 
@@ -39,14 +41,17 @@ module _ {strict : Bool} {row : Row} {m : Model} {s : List ℕ} (I : ImageAsBy s
 module _ {strict : Bool} {row : Row} {m k : Model} {s : List ℕ} (I : ImageAsBy strict row m s) (J : ImageAsBy strict row k s) where
   same_live : live m ≡ live k
   same_live = sym (live_is I) ∙ live_is J
+
   same_places : live_places m ≡ live_places k
   same_places =
       let v = live_length m in
       let w = live_length k in
       let z = same_live in
       ext_get_or 0 (live_places m) (live_places k) (omega arith) (λ i h. sym (p_is I (omega arith)) ∙ p_is J (omega arith))
+
   same_lives : (p : ℕ) → p < places → lives_at m p ≡ lives_at k p
   same_lives p h = sym (live_in m p h) ∙ ap (among p) same_places ∙ live_in k p h
+
   same_thread : (p : ℕ) → p < places → thread m p ≡ thread k p
   same_thread p h =
       by_test (lives_at m p)
@@ -55,6 +60,7 @@ module _ {strict : Bool} {row : Row} {m k : Model} {s : List ℕ} (I : ImageAsBy
       let z = same_live in
       ap (thread m) (sym w.2) ∙ entry_thread I w.1 ∙ sym (entry_thread J (omega (arith, w.1))) ∙ ap (thread k) w.2)
       (λ t. (consistent_in I).clean p (dead (consistent_in I) p t) ∙ sym ((consistent_in J).clean p (dead (consistent_in J) p (sym (same_lives p h) ∙ t))))
+
   same_inbox : (p : ℕ) → p < places → line m (inbox p) ≡ line k (inbox p)
   same_inbox p h =
       by_test (lives_at m p)
@@ -63,14 +69,17 @@ module _ {strict : Bool} {row : Row} {m k : Model} {s : List ℕ} (I : ImageAsBy
       let z = same_live in
       ap (λ (r : ℕ). line m (inbox r)) (sym w.2) ∙ entry_inbox I w.1 ∙ sym (entry_inbox J (omega (arith, w.1))) ∙ ap (λ (r : ℕ). line k (inbox r)) w.2)
       (λ t. no_inbox (consistent_in I) p (dead (consistent_in I) p t) ∙ sym (no_inbox (consistent_in J) p (dead (consistent_in J) p (sym (same_lives p h) ∙ t))))
+
   -- a queue that the row has is read off the bytes, and any other is empty
   same_queue : (q : ℕ) → q < queue_count → line m q ≡ line k q
   same_queue q h =
       by_test (ltb q row.queues)
       (λ t. let z = ltb-true q row.queues t in sym (queue_found I q z) ∙ queue_found J q z)
       (λ t. let z = ltb-false q row.queues t in I.holds.queues q z h ∙ sym (J.holds.queues q z h))
+
   same_line : (q : ℕ) → q < line_count → line m q ≡ line k q
   same_line = each_line (λ q. line m q ≡ line k q) same_queue same_inbox
+
   same_model : m ≡ k
   same_model =
       let ey = sym (last_is I) ∙ last_is J in

@@ -1,36 +1,38 @@
 -- Which places an image names: none that its edition has not, wherever it stands (document 02, P6). So bytes of an edition below 4 that name a place which
 -- there was not before P6 get 10, by the rules as they are and by the old ones, so that the update refuses them too.
-use Rattle.std.specs.Prelude.{ℕ, zero, suc, ◌+◌, ◌≤◌, ◌<◌, ◌≡◌, ◌≢◌, List, [], ◌∷◌, Bool, true, take, drop}
+use Rattle.std.specs.Prelude.{ℕ, zero, suc, ◌≤◌, ◌<◌, ◌≡◌, ◌≢◌, List, [], ◌∷◌, Bool, true}
 use Rattle.std.proofs.Math.Path.{refl, subst}
 use Rattle.std.proofs.Common.{sym, ap, ◌∙◌, arith}
 use Rattle.std.proofs.Math.ListN.{get_or}
-use Rattle.lists.specs.Lists.{none, among}
+use Rattle.lists.specs.Lists.{among}
 use Rattle.rules.specs.Model.{Place, Empty, Model, inbox, thread, line, live}
 use Rattle.rules.specs.Consistent.{OldConsistent, Consistent}
 use Rattle.order.specs.Sound.{old_of, inside}
 use Rattle.order.specs.Places.{at_lives}
-use Rattle.saving.specs.Format.{queues_of, places_of, row_of, newest, lengths_at, inbox_length_at, body_length, encode_as, encode}
+use Rattle.saving.specs.Format.{queues_of, places_of, row_of, newest, encode_as, encode}
 use Rattle.saving.specs.Editions.{newest_known, newest_holds}
 use Rattle.saving.proofs.Held.{stands_held, runs_held}
 use Rattle.saving.specs.Layout.{called_edition}
 use Rattle.saving.specs.declared.format.Row.{Row}
 use Rattle.loading.specs.Loads.{row_at, head_code, ImageAsBy, ForeignBy, LoadsBy, ImageAs}
-use Rattle.loading.specs.Reading.{queue_at}
 use Rattle.loading.specs.Finds.{running_is, live_is, row_is, queue_found}
-use Rattle.loading.specs.Entry.{p_is, p_named, entry_at, body_at, entry_inbox}
+use Rattle.loading.specs.Entry.{p_is, p_named, entry_at, entry_inbox}
 use Rattle.loading.specs.Judges.{head_image}
 use Rattle.loading.proofs.Injective.{entry_of}
 use Rattle.loading.proofs.Accepts.{refuses}
 use Rattle.loading.specs.declared.Loaded.{Loaded}
-use Rattle.loading.specs.Named.{queue_in, inbox_in, NamesItsPlaces}
+use Rattle.loading.specs.Named.{NamesItsPlaces}
 
 module _ {strict : Bool} {row : Row} {m : Model} {s : List ℕ} (I : ImageAsBy strict row m s) where
   abbrev consistent_in : OldConsistent m
   consistent_in = old_of strict I.consistent
+
   low : (p : Place) (q : ℕ) {xs : List Place} → xs ≡ line m q → among p xs ≡ true → p < row.places
   low p q e a = stands_held I.holds consistent_in p q (ap (among p) (sym e) ∙ a)
+
   within : {i : ℕ} → i < get_or s 3 0 → i < live m
   within h = rw (live_is I) at h
+
   -- an image names those of its edition only
   pub names_its_places : NamesItsPlaces row s
   names_its_places = record {
@@ -44,6 +46,7 @@ module _ {strict : Bool} {row : Row} {m : Model} {s : List ℕ} (I : ImageAsBy s
 module _ {strict : Bool} {s : List ℕ} (n : NamesItsPlaces (row_at s) s → ⊥) where
   others_foreign : ForeignBy strict s
   others_foreign m (row, I) = n (subst (λ (r : Row). NamesItsPlaces r s) (row_is I) (names_its_places I))
+
   pub others_refused : (r : Loaded) → head_code s ≡ 0 → LoadsBy strict s r → r.code ≡ 10
   others_refused r h L = (refuses L).1 h others_foreign
 
@@ -57,6 +60,7 @@ as_before e (x ∷ xs) (suc n) h = refl
 module _ {m : Model} (C : Consistent m) (p : Place) (h : places_of 3 ≤ p) (l : (thread m p).standing ≢ Empty) where
   saved_crew : ImageAs newest m (encode m)
   saved_crew = record { known = newest_known; consistent = C; holds = newest_holds m; bytes = refl }
+
   called_names : NamesItsPlaces (row_of 3) (called_edition 3 (encode m)) → p < places_of 3
   unfolding encode_as queues_of
   called_names N =
@@ -64,8 +68,10 @@ module _ {m : Model} (C : Consistent m) (p : Place) (h : places_of 3 ≤ p) (l :
       let z : get_or (called_edition 3 (encode m)) (entry_at newest w.0) 0 < places_of 3 = N.contents w.0 w.1 in
       let e : get_or (called_edition 3 (encode m)) (entry_at newest w.0) 0 ≡ p = as_before 3 (encode m) (entry_at newest w.0) (omega arith) ∙ w.2 in
       subst (λ (x : ℕ). x < places_of 3) e z
+
   called_head : head_code (called_edition 3 (encode m)) ≡ head_code (encode m)
   unfolding encode_as queues_of
   called_head = refl
+
   pub called_refused : {strict : Bool} (r : Loaded) → LoadsBy strict (called_edition 3 (encode m)) r → r.code ≡ 10
   called_refused r = others_refused (λ N. let z = called_names N in omega arith) r (called_head ∙ head_image (newest, saved_crew))

@@ -29,33 +29,44 @@ started n st pa = record { number = n; standing = st; partner = nobody; word = 0
 module _ {strict : Bool} {f g : ℕ} {m : Model} (J : ImageBy strict m (related 3 f g)) where
   image : ImageAsBy strict (row_of 3) m (related 3 f g)
   image = subst (λ (row : Row). ImageAsBy strict row m (related 3 f g)) (row_is J.1) J.1
+
   two : live m ≡ 2
   two = sym (live_is image)
+
   first : thread m 0 ≡ started 0 Running f
   unfolding queues_of parents_of
   first = entry_thread image {i = 0} (let e = two in omega arith)
+
   second : thread m 1 ≡ started 1 Ready g
   unfolding queues_of parents_of
   second = entry_thread image {i = 1} (let e = two in omega arith)
+
   C : OldConsistent m
   C = old_of strict image.consistent
+
   S : Sound m
   S = old_sound m C
+
   first_lives : (thread m 0).standing ≢ Empty
   first_lives = rw first (omega arith)
+
   second_lives : (thread m 1).standing ≢ Empty
   second_lives = rw second (omega arith)
+
   -- the places above them, where these are their parents
   above_first : f ≡ 1 → above m 0 ≡ 1
   above_first e = ap (place_of m) (rw (first, second) e) ∙ place_only m S 1 second_lives
+
   above_second : (p : ℕ) → (thread m p).standing ≢ Empty → (thread m p).number ≡ g → above m 1 ≡ p
   above_second p h e = ap (place_of m) (rw second (sym e)) ∙ place_only m S p h
+
   -- nobody else lives
   named : (r i : ℕ) → i < 2 → get_or (related 3 f g) (entry_at (row_of 3) i) 0 ≡ r → (thread m r).number < 2
   unfolding queues_of parents_of
   named r zero h e = let z : 0 ≡ r = e in rw (← z, first) (omega arith)
   named r (suc zero) h e = let z : 1 ≡ r = e in rw (← z, second) (omega arith)
   named r (suc (suc i)) h e = absurd (omega arith)
+
   numbered : (r : ℕ) → (thread m r).standing ≢ Empty → (thread m r).number < 2
   numbered r h =
       let w = entry_of image r (small m S r h) (at_lives m r h) in

@@ -1,28 +1,15 @@
 -- The images of "Loads that were counted" (document 01), and those of document 02's P1, P5 and P6: one table, and both ways: loading these bytes gives the
 -- state, and saving the state gives the bytes of the newest edition.
-use Rattle.std.specs.Prelude.{ℕ, zero, suc, ◌+◌, ◌-◌, ◌≤◌, ◌<◌, ◌≡◌, refl, List, [], ◌∷◌, ◌++◌, length, get_or, take, drop, replicate, Bool, true, ◌&&◌, ◌||◌, eqb}
-use Rattle.std.proofs.Common.{sym, ap, subst, ◌∙◌, arith, get_or-take, get_or-drop, eqb-true}
-use Rattle.lists.specs.Lists.{tally}
-use Rattle.lists.specs.Every.{Every}
-use Rattle.lists.specs.Sizes.{devices, queue_count}
-use Rattle.lists.specs.Laws.{never, and_left, and_right}
-use Rattle.rules.specs.Values.{nobody}
-use Rattle.rules.specs.Model.{Empty, Thread, vacant, Model, thread, line, all_places}
-use Rattle.rules.specs.Rules.{is_nil, first_free, fresh, after}
+use Rattle.std.specs.Prelude.{ℕ, ◌≤◌, ◌≡◌, List, [], ◌∷◌, ◌++◌, length, take, replicate}
+use Rattle.lists.specs.Sizes.{devices}
+use Rattle.rules.specs.Model.{Model}
+use Rattle.rules.specs.Rules.{fresh, after}
 use Rattle.rules.specs.declared.Event.{Event}
 use Rattle.rules.specs.declared.Event.TheVariants.{Create, WaitClock, SliceEnd, Tick, WaitDevice}
-use Rattle.order.proofs.Keeps.{fresh_consistent}
-use Rattle.order.proofs.Always.{always}
-use Rattle.rules.specs.Consistent.{Consistent}
-use Rattle.nucleus.specs.View.{view, Shows}
+use Rattle.nucleus.specs.View.{Shows}
 use Rattle.nucleus.specs.declared.State.{State}
-use Rattle.saving.specs.Format.{queues_of, parents_of, places_of, row_of, Known, Holds, queues_in, encode_as, encode}
-use Rattle.saving.specs.Editions.{known_of, newest_known, newest_holds}
-use Rattle.loading.specs.Loads.{ImageAs, Loads}
+use Rattle.loading.specs.Loads.{Loads}
 use Rattle.saving.specs.Save.{Saves}
-use Rattle.saving.specs.declared.format.Row.{Row}
-
-
 use Rattle.loading.specs.declared.Loaded.{Loaded}
 
 -- a history from fresh, its image in an edition, and its image as it is saved

@@ -1,27 +1,13 @@
 -- Which places an image names: none that its edition has not, wherever it stands (document 02, P6). So bytes of an edition below 4 that name a place which
 -- there was not before P6 get 10, by the rules as they are and by the old ones, so that the update refuses them too.
-use Rattle.std.specs.Prelude.{ℕ, zero, suc, ◌+◌, ◌≤◌, ◌<◌, ◌≡◌, ◌≢◌, List, [], ◌∷◌, Bool, true, take, drop}
-use Rattle.std.proofs.Math.Path.{refl, subst}
-use Rattle.std.proofs.Common.{sym, ap, ◌∙◌, arith}
+use Rattle.std.specs.Prelude.{ℕ, ◌+◌, ◌<◌, ◌≡◌, ◌≢◌, List, true, take, drop}
 use Rattle.std.proofs.Math.ListN.{get_or}
 use Rattle.lists.specs.Lists.{none, among}
-use Rattle.rules.specs.Model.{Place, Empty, Model, inbox, thread, line, live}
-use Rattle.rules.specs.Consistent.{OldConsistent, Consistent}
-use Rattle.order.specs.Sound.{old_of, inside}
-use Rattle.order.specs.Places.{at_lives}
-use Rattle.saving.specs.Format.{queues_of, places_of, row_of, newest, lengths_at, inbox_length_at, body_length, encode_as, encode}
-use Rattle.saving.specs.Editions.{newest_known, newest_holds}
-use Rattle.saving.proofs.Held.{stands_held, runs_held}
-use Rattle.saving.specs.Layout.{called_edition}
+use Rattle.rules.specs.Model.{Place}
+use Rattle.saving.specs.Format.{lengths_at, inbox_length_at, body_length}
 use Rattle.saving.specs.declared.format.Row.{Row}
-use Rattle.loading.specs.Loads.{row_at, head_code, ImageAsBy, ForeignBy, LoadsBy, ImageAs}
 use Rattle.loading.specs.Reading.{queue_at}
-use Rattle.loading.specs.Finds.{running_is, live_is, row_is, queue_found}
-use Rattle.loading.specs.Entry.{p_is, p_named, entry_at, body_at, entry_inbox}
-use Rattle.loading.specs.Judges.{head_image}
-
-
-use Rattle.loading.specs.declared.Loaded.{Loaded}
+use Rattle.loading.specs.Entry.{entry_at, body_at}
 
 -- the places of line q, and of the inbox of entry i, as they stand in the bytes
 abbrev pub queue_in : Row → List ℕ → ℕ → List Place

@@ -1,7 +1,7 @@
 -- A BOARD THAT COMES BACK (demand 3, as C sees it), boot after boot, as its start code does it: what `rumqatiss_fresh`, `rumqatiss_board` and
 -- `rumqatiss_replay` promise, and nothing else. So the C side need believe nothing but the rules. It begins with the fresh image, or with any image that the
 -- library takes, as one does that the build before an update has left.
-use Rattle.std.specs.Prelude.{◌≡◌, refl, List, [], ◌∷◌, ◌++◌, cond, ℕ, ◌≤◌, eqb, ltb, length, take, drop}
+use Rattle.std.specs.Prelude.{◌≡◌, refl, List, [], ◌∷◌, ◌++◌, ℕ, ◌≤◌, eqb, length, take, drop}
 use Rattle.std.proofs.Common.{sym, ap, ap₂, subst, ◌∙◌, append_assoc, append-nil, arith, eqb-true, lt-ltb, le-ltb, length-take, take_at}
 use Rattle.std.proofs.Math.Seq.{drop-length}
 use Rattle.lists.specs.Laws.{by_test}
@@ -27,12 +27,13 @@ use Rattle.loading.specs.Judges.{saved_image}
 use Rattle.loading.proofs.Accepts.{refuses_not}
 use Rattle.loading.proofs.Injective.{image_one}
 use Rattle.logging.specs.Log.{limit, Parsed, log_of}
-use Rattle.logging.specs.Cut.{whole_in, cut_code, cut_at}
+use Rattle.logging.specs.Cut.{whole_in, cut_at}
 use Rattle.logging.proofs.Cut.{fit_append, fit_whole, cut_log}
 use Rattle.logging.proofs.History.{refusal_low, log_append, after_append, whole_log}
 use Rattle.board.specs.Promise.{placed, kept, replay_on, Brings, unread, played, fresh_on}
 use Rattle.recovery.specs.Runs.{heard, events_of, all_events, said_of, all_said, Calls, StandsFor, CallsRan}
-use Rattle.recovery.proofs.Runs.{calls_bytes, first_still, saved, stands_image, stands_newest, calls_ran}
+use Rattle.recovery.specs.Runs.StandsFor.{first_still, saved}
+use Rattle.recovery.proofs.Runs.{calls_bytes, stands_image, stands_newest, calls_ran}
 use Rattle.board.specs.declared.Told.{Told}
 use Rattle.board.specs.declared.Brought.{Brought}
 use Rattle.recovery.specs.Boots.{event_codes, logged_as, logged, Boarded, Restored}
@@ -99,6 +100,7 @@ module _ (first : List ℕ) {m : Model} (C : Consistent m) where
     records : log ≡ log_of fs
     before : AllFit bs
     since : AllFit fs
+
   -- what comes back of such a store
   comes_back : {bs fs : List Event} {image base log : List ℕ} → InStep bs fs image base log → (k : ℕ) → k ≤ length log → k ≤ limit → {out buffer : List ℕ} {t : Brought}
       → longest_image ≤ length out → Brings base (take k log) out (t, buffer) → Restored m bs (whole_in k fs) k t buffer
@@ -120,10 +122,12 @@ module _ (first : List ℕ) {m : Model} (C : Consistent m) where
         bytes = ap (λ (x : Brought × List ℕ). x.0.bytes) q;
         code = ap (λ (x : Brought × List ℕ). x.0.code) q;
       }
+
   -- what is handed over to its present image
   runs_on : {bs fs : List Event} {image base log last : List ℕ} {recs : List (List ℕ)} {ts : List Told} → InStep bs fs image base log → Calls image recs ts last
       → CallsRan first (after (bs ++ fs) m) recs ts last
   runs_on {bs} {fs} S k = calls_ran (after (bs ++ fs) m) S.present k
+
   in_step : {bs fs : List Event} {image base log : List ℕ} → Boarded first m bs fs image base log → InStep bs fs image base log
   in_step (begun I) = record { present = first_still I refl; at_save = first_still I refl; records = refl; before = tt {0}; since = tt {0} }
   in_step (handed {bs = bs} {fs = fs} {last = last} {recs = recs} {ts = ts} B k) =
@@ -165,9 +169,11 @@ module _ {first : List ℕ} {m : Model} {bs fs : List Event} {image base log : L
   -- Whatever is handed over, at any time of its life: images, codes, choices and numbers are those of the rules, for the history so far.
   pub board_runs : {last : List ℕ} {recs : List (List ℕ)} {ts : List Told} → Calls image recs ts last → CallsRan first (after (bs ++ fs) m) recs ts last
   board_runs = runs_on first C (in_step first C life)
+
   -- And where its first image was of the newest edition, the last is what is saved of the rules' state.
   pub board_saves : encode m ≡ first → {last : List ℕ} {recs : List (List ℕ)} {ts : List Told} → Calls image recs ts last → last ≡ encode (after (all_events recs) (after (bs ++ fs) m))
   board_saves e k = stands_newest C e (board_runs k).image
+
   -- Whenever the power fails: the image kept, and the log cut at any byte, bring back the image of the rules' state after the events before the image, and
   -- those of the log that are whole.
   pub board_back : (k : ℕ) → k ≤ length log → k ≤ limit → {out buffer : List ℕ} {t : Brought} → longest_image ≤ length out → Brings base (take k log) out (t, buffer)

@@ -12,9 +12,7 @@ use Rattle.journal.specs.Format.{record_of}
 use Rattle.nucleus.specs.View.{view, Consists, Shows}
 use Rattle.nucleus.specs.Settled.{shows_one}
 use Rattle.nucleus.specs.declared.State.{State}
-use Rattle.nucleus.specs.declared.Reply.{Reply}
 use Rattle.saving.specs.Format.{encode}
-use Rattle.saving.specs.Save.{Saves}
 use Rattle.loading.specs.Loads.{Loads}
 use Rattle.loading.specs.Judges.{saved_image}
 use Rattle.loading.proofs.Accepts.{accepts, loads_back}
@@ -22,12 +20,12 @@ use Rattle.loading.proofs.RoundTrip.{front_image}
 use Rattle.loading.specs.declared.Loaded.{Loaded}
 use Rattle.logging.specs.Log.{limit, Parsed, log_of}
 use Rattle.logging.specs.Promise.{Came, Replays, inconsistent, too_long, came}
-use Rattle.logging.specs.Cut.{Rest, whole_in, cut_code}
-use Rattle.logging.proofs.Cut.{none, half, read_log, fit_append, fit_whole, whole_front}
-use Rattle.logging.specs.History.{Session, LogHolds}
+use Rattle.logging.specs.Cut.{Rest, whole_in}
+use Rattle.logging.specs.Cut.Rest.{none, half}
+use Rattle.logging.proofs.Cut.{read_log, fit_append, fit_whole, whole_front}
 use Rattle.logging.proofs.History.{session_leaves, after_append, holds_none, holds_on, holds_cut, holds_replayed}
 use Rattle.logging.specs.declared.Replayed.{Replayed}
-use Rattle.recovery.specs.Chain.{Chain, chain_fits, chain_shows}
+use Rattle.recovery.specs.Chain.{chain_fits, chain_shows}
 use Rattle.recovery.specs.History.{Store, Lived, Back, Good, Alive, Unmoved}
 use Rattle.recovery.specs.History.Store.{empty, stored}
 use Rattle.recovery.specs.History.Lived.{born, went, saved, recorded, back}
@@ -121,6 +119,7 @@ module _ {es bs fs : List Event} {s : State} {image log : List ℕ} {q : ℕ} (l
   -- 12 inside one.
   pub history : (k : ℕ) → k ≤ q → {l : Loaded} {r : Replayed} → Loads image l → Replays l.state (take k log) r → Back bs (whole_in k fs) k l r
   history = comes_back (lives life).1
+
   -- And that is the front of what has happened: nothing is made up, and what is missing is an end of it.
   pub front_back : (k : ℕ) → (lost : List Event) × (es ≡ (bs ++ whole_in k fs) ++ lost)
   front_back k =

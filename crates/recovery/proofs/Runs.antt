@@ -1,11 +1,11 @@
 -- A BOARD THAT RUNS: any records handed over one after the other, each with the image that the last accepted call gave and a buffer with room. The images are
 -- those of the rules' states for that history, and codes, choices and numbers are the rules'. (The first image may be of any edition that is known.) From the first boot on, power failures among them: Boots.antt.
-use Rattle.std.specs.Prelude.{◌≡◌, refl, ◌≢◌, List, [], ◌∷◌, ◌++◌, cond, ℕ, ◌≤◌, eqb, length, take, drop}
+use Rattle.std.specs.Prelude.{◌≡◌, refl, ◌≢◌, List, ◌∷◌, ◌++◌, ℕ, ◌≤◌, eqb, length, take, drop}
 use Rattle.std.proofs.Common.{sym, ap, ap₂, subst, ◌∙◌, arith, eqb-true, ne_eqb, le-ltb, take_at}
 use Rattle.std.proofs.lemmas.Bool.{eqb-false}
 use Rattle.lists.specs.Laws.{by_test}
 use Rattle.lists.specs.Every.{Every}
-use Rattle.rules.specs.Values.{nobody, choice_kind, choice_runs}
+use Rattle.rules.specs.Values.{nobody}
 use Rattle.rules.specs.Model.{Model}
 use Rattle.rules.specs.Rules.{Outcome, outcome, full, refusal, given, next, after, choice}
 use Rattle.rules.specs.Consistent.{Fits, Consistent}
@@ -25,9 +25,9 @@ use Rattle.loading.specs.Judges.{saved_image}
 use Rattle.loading.proofs.Accepts.{refuses_not}
 use Rattle.loading.proofs.Injective.{image_one}
 use Rattle.logging.proofs.History.{after_append}
-use Rattle.board.specs.Promise.{declined, acted, bad_code, taken, step_on, Boards, unloaded, stepped}
+use Rattle.board.specs.Promise.{declined, acted, taken, step_on, Boards, unloaded, stepped}
 use Rattle.board.specs.declared.Told.{Told}
-use Rattle.recovery.specs.Runs.{heard, events_of, all_events, told, said_of, said, all_said, Calls, StandsFor, CallsRan}
+use Rattle.recovery.specs.Runs.{heard, events_of, all_events, told, said_of, said, Calls, StandsFor, CallsRan}
 use Rattle.recovery.specs.Runs.Calls.{over, accepted, refused}
 use Rattle.recovery.specs.Runs.StandsFor.{first_still, saved}
 

@@ -3,12 +3,8 @@ use Rattle.std.specs.Prelude.{◌≡◌, List, ◌∷◌, true, ℕ, zero, suc, 
 use Rattle.std.proofs.Common.{sym, ap, subst, ◌∙◌, inl, inr, arith, ltb-true, ltb-false, take_all}
 use Rattle.lists.specs.Laws.{by_test}
 use Rattle.rules.specs.Model.{Model}
-use Rattle.rules.specs.Rules.{place_of, not_live, after}
-use Rattle.rules.specs.declared.Number.{Number}
+use Rattle.rules.specs.Rules.{not_live, after}
 use Rattle.rules.specs.declared.Event.{Event}
-use Rattle.rules.specs.declared.Event.TheVariants.{End}
-use Rattle.rules.specs.declared.Choice.TheVariants.{Run}
-use Rattle.order.specs.EndFamily.{Of}
 use Rattle.order.specs.TurnComes.{Queued, slices, Ends, Come}
 use Rattle.order.proofs.TurnComes.{turn_comes}
 use Rattle.nucleus.specs.View.{view, Consists, held, refused}

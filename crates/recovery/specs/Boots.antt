@@ -1,37 +1,18 @@
 -- A BOARD THAT COMES BACK (demand 3, as C sees it), boot after boot, as its start code does it: what `rumqatiss_fresh`, `rumqatiss_board` and
 -- `rumqatiss_replay` promise, and nothing else. So the C side need believe nothing but the rules. It begins with the fresh image, or with any image that the
 -- library takes, as one does that the build before an update has left.
-use Rattle.std.specs.Prelude.{◌≡◌, refl, List, [], ◌∷◌, ◌++◌, cond, ℕ, ◌≤◌, eqb, ltb, length, take, drop}
-use Rattle.std.proofs.Common.{sym, ap, ap₂, subst, ◌∙◌, append_assoc, append-nil, arith, eqb-true, lt-ltb, le-ltb, length-take, take_at}
-use Rattle.std.proofs.Math.Seq.{drop-length}
-use Rattle.lists.specs.Laws.{by_test}
-use Rattle.lists.specs.Every.{Every}
+use Rattle.std.specs.Prelude.{◌≡◌, List, [], ◌∷◌, ◌++◌, cond, ℕ, ◌≤◌, ltb, length, take}
 use Rattle.rules.specs.Values.{choice_kind, choice_runs}
 use Rattle.rules.specs.Model.{Model}
-use Rattle.rules.specs.Rules.{refusal, fresh, after, choice as chosen}
-use Rattle.rules.specs.Consistent.{Consistent}
+use Rattle.rules.specs.Rules.{after, choice as chosen}
 use Rattle.rules.specs.declared.Event.{Event}
-use Rattle.order.specs.Keeps.{AllFit}
-use Rattle.order.proofs.Keeps.{fresh_consistent}
-use Rattle.order.proofs.Always.{always}
-use Rattle.journal.specs.Format.{record_of, read_at}
-use Rattle.journal.specs.Laws.{Bytes}
-use Rattle.journal.proofs.Laws.{read_whole}
-use Rattle.journal.specs.declared.Read.{Read}
-use Rattle.journal.specs.declared.Read.TheVariants.{Record, AtEnd, CutShort, UnknownKind, PastEnd}
 use Rattle.saving.specs.Format.{encode}
 use Rattle.saving.specs.Longest.{longest_image}
-use Rattle.saving.proofs.Longest.{longest}
 use Rattle.loading.specs.Loads.{Image}
-use Rattle.loading.specs.Judges.{saved_image}
-use Rattle.loading.proofs.Accepts.{refuses_not}
-use Rattle.loading.proofs.Injective.{image_one}
-use Rattle.logging.specs.Log.{limit, Parsed, log_of}
-use Rattle.logging.specs.Cut.{whole_in, cut_code, cut_at}
-use Rattle.logging.proofs.Cut.{fit_append, fit_whole, cut_log}
-use Rattle.logging.proofs.History.{refusal_low, log_append, after_append, whole_log}
-use Rattle.board.specs.Promise.{placed, kept, replay_on, Brings, unread, played, fresh_on}
-use Rattle.recovery.specs.Runs.{heard, events_of, all_events, said_of, all_said, Calls, StandsFor, CallsRan}
+use Rattle.logging.specs.Log.{limit, log_of}
+use Rattle.logging.specs.Cut.{whole_in, cut_code}
+use Rattle.board.specs.Promise.{Brings}
+use Rattle.recovery.specs.Runs.{all_events, Calls}
 use Rattle.board.specs.declared.Told.{Told}
 use Rattle.board.specs.declared.Brought.{Brought}
 

@@ -1,33 +1,22 @@
 -- DEMAND 3, as a terminal lives it, over what the public operations promise and nothing else: events come, the state is saved, later events are recorded; the
 -- power fails at any byte of the log; the image is loaded and what is left of the log replayed; and so on, in any order, boot after boot.
-use Rattle.std.specs.Prelude.{◌≡◌, List, [], ◌++◌, ℕ, ◌+◌, ◌≤◌, ◌<◌, length, take}
-use Rattle.std.proofs.Common.{sym, ap, subst, ◌∙◌, append_assoc, append-nil, arith, length-append, length-take}
+use Rattle.std.specs.Prelude.{◌≡◌, List, [], ◌++◌, ℕ, ◌≤◌, length, take}
 use Rattle.rules.specs.Rules.{fresh, choice, after}
-use Rattle.rules.specs.Consistent.{Consistent}
 use Rattle.rules.specs.declared.Event.{Event}
 use Rattle.order.specs.Keeps.{AllFit}
-use Rattle.order.proofs.Keeps.{fresh_consistent}
-use Rattle.order.proofs.Always.{always}
-use Rattle.journal.specs.Format.{record_of}
-use Rattle.nucleus.specs.View.{view, Consists, Shows}
-use Rattle.nucleus.specs.Settled.{shows_one}
+use Rattle.nucleus.specs.View.{Shows}
 use Rattle.nucleus.specs.declared.State.{State}
 use Rattle.nucleus.specs.declared.Reply.{Reply}
 use Rattle.saving.specs.Format.{encode}
 use Rattle.saving.specs.Save.{Saves}
 use Rattle.loading.specs.Loads.{Loads}
-use Rattle.loading.specs.Judges.{saved_image}
-use Rattle.loading.proofs.Accepts.{accepts, loads_back}
-use Rattle.loading.proofs.RoundTrip.{front_image}
 use Rattle.loading.specs.declared.Loaded.{Loaded}
-use Rattle.logging.specs.Log.{limit, Parsed, log_of}
-use Rattle.logging.specs.Promise.{Came, Replays, inconsistent, too_long, came}
-use Rattle.logging.specs.Cut.{Rest, whole_in, cut_code}
-use Rattle.logging.proofs.Cut.{none, half, read_log, fit_append, fit_whole, whole_front}
+use Rattle.logging.specs.Log.{log_of}
+use Rattle.logging.specs.Promise.{Replays}
+use Rattle.logging.specs.Cut.{whole_in, cut_code}
 use Rattle.logging.specs.History.{Session, LogHolds}
-use Rattle.logging.proofs.History.{session_leaves, after_append, holds_none, holds_on, holds_cut, holds_replayed}
 use Rattle.logging.specs.declared.Replayed.{Replayed}
-use Rattle.recovery.specs.Chain.{Chain, chain_fits, chain_shows}
+use Rattle.recovery.specs.Chain.{Chain}
 
 -- ---- what a terminal lives through
 -- What it has kept for its next boot: nothing yet; or an image, and a log that reaches to `end` in its buffer. bs: the events before the image was saved; fs:

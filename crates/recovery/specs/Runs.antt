@@ -1,31 +1,19 @@
 -- A BOARD THAT RUNS: any records handed over one after the other, each with the image that the last accepted call gave and a buffer with room. The images are
 -- those of the rules' states for that history, and codes, choices and numbers are the rules'. (The first image may be of any edition that is known.) From the first boot on, power failures among them: Boots.antt.
-use Rattle.std.specs.Prelude.{◌≡◌, refl, ◌≢◌, List, [], ◌∷◌, ◌++◌, cond, ℕ, ◌≤◌, eqb, length, take, drop}
-use Rattle.std.proofs.Common.{sym, ap, ap₂, subst, ◌∙◌, arith, eqb-true, ne_eqb, le-ltb, take_at}
-use Rattle.std.proofs.lemmas.Bool.{eqb-false}
-use Rattle.lists.specs.Laws.{by_test}
-use Rattle.lists.specs.Every.{Every}
-use Rattle.rules.specs.Values.{nobody, choice_kind, choice_runs}
+use Rattle.std.specs.Prelude.{◌≡◌, ◌≢◌, List, [], ◌∷◌, ◌++◌, cond, ℕ, ◌≤◌, eqb, length, take}
+use Rattle.rules.specs.Values.{choice_kind, choice_runs}
 use Rattle.rules.specs.Model.{Model}
-use Rattle.rules.specs.Rules.{Outcome, outcome, full, refusal, given, next, after, choice}
-use Rattle.rules.specs.Consistent.{Fits, Consistent}
+use Rattle.rules.specs.Rules.{Outcome, outcome, after, choice}
+use Rattle.rules.specs.Consistent.{Consistent}
 use Rattle.rules.specs.declared.Event.{Event}
-use Rattle.rules.specs.declared.Event.TheVariants.{Create, Send, Receive, Reply, End, WaitClock, SliceEnd, Tick, WaitDevice, Interrupt}
-use Rattle.order.proofs.Keeps.{keeps}
 use Rattle.journal.specs.Format.{read_at}
 use Rattle.journal.specs.Laws.{Bytes}
-use Rattle.journal.proofs.Laws.{read_whole}
 use Rattle.journal.specs.declared.Read.{Read}
 use Rattle.journal.specs.declared.Read.TheVariants.{Record, AtEnd, CutShort, UnknownKind, PastEnd}
 use Rattle.saving.specs.Format.{encode}
 use Rattle.saving.specs.Longest.{longest_image}
-use Rattle.saving.proofs.Longest.{longest}
 use Rattle.loading.specs.Loads.{Image}
-use Rattle.loading.specs.Judges.{saved_image}
-use Rattle.loading.proofs.Accepts.{refuses_not}
-use Rattle.loading.proofs.Injective.{image_one}
-use Rattle.logging.proofs.History.{after_append}
-use Rattle.board.specs.Promise.{declined, acted, bad_code, taken, step_on, Boards, unloaded, stepped}
+use Rattle.board.specs.Promise.{declined, bad_code, Boards}
 use Rattle.board.specs.declared.Told.{Told}
 
 -- ---- what the rules say of any bytes that are handed over as a record

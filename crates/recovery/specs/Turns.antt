@@ -1,20 +1,14 @@
 -- EVERY TURN COMES, in the code (demand 2): `turn_comes` of the rules, said of a chain of replies of `State::step`.
-use Rattle.std.specs.Prelude.{◌≡◌, List, ◌∷◌, true, ℕ, zero, suc, ◌≤◌, ◌<◌, ltb, length, take, drop}
-use Rattle.std.proofs.Common.{sym, ap, subst, ◌∙◌, inl, inr, arith, ltb-true, ltb-false, take_all}
-use Rattle.lists.specs.Laws.{by_test}
+use Rattle.std.specs.Prelude.{◌≡◌, List, ◌∷◌, true, ℕ, suc}
 use Rattle.rules.specs.Model.{Model}
-use Rattle.rules.specs.Rules.{place_of, not_live, after}
+use Rattle.rules.specs.Rules.{place_of, not_live}
 use Rattle.rules.specs.declared.Number.{Number}
 use Rattle.rules.specs.declared.Event.{Event}
 use Rattle.rules.specs.declared.Event.TheVariants.{End}
 use Rattle.rules.specs.declared.Choice.TheVariants.{Run}
 use Rattle.order.specs.EndFamily.{Of}
-use Rattle.order.specs.TurnComes.{Queued, slices, Ends, Come}
-use Rattle.order.proofs.TurnComes.{turn_comes}
-use Rattle.nucleus.specs.View.{view, Consists, held, refused}
-use Rattle.nucleus.specs.declared.State.{State}
+use Rattle.nucleus.specs.View.{view}
 use Rattle.nucleus.specs.declared.Reply.{Reply}
-use Rattle.recovery.specs.Chain.{Chain, stays, steps, chain_fits}
 
 -- From m, the reply to the event behind i others is the turn of the thread n: it says to run n; or it is that of an end which is done, of a thread in whose
 -- family n is, and nobody has the number n now.

@@ -1,16 +1,9 @@
 -- An update in the field (document 02, P2): the image that comes of it boots, and every send that was unanswered is so still, in its place with its word.
-use Rattle.std.specs.Prelude.{◌≡◌, refl, List, [], ℕ, ltb, length, take, drop}
-use Rattle.std.proofs.Common.{sym, ap, ◌∙◌, arith, take_at}
-use Rattle.lists.specs.Laws.{by_test}
+use Rattle.std.specs.Prelude.{List, [], ℕ}
 use Rattle.rules.specs.Model.{Model}
 use Rattle.rules.specs.Rules.{updated}
-use Rattle.saving.specs.Format.{encode}
 use Rattle.loading.specs.Loads.{OldImage}
-use Rattle.loading.specs.Judges.{saved_image}
 use Rattle.updating.specs.Updates.{NothingLost}
-use Rattle.updating.proofs.Updates.{refuses_some, update_consistent, lost_nothing}
-use Rattle.board.specs.Promise.{carried_on, Carries, untaken, took_over}
-use Rattle.board.specs.declared.Carried.{Carried}
 use Rattle.recovery.specs.Boots.{Boarded}
 
 -- m: what the old image stood for. kept: the image that came of it, which is that of m updated.

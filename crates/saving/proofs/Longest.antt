@@ -112,9 +112,11 @@ module _ (m : Model) (S : Sound m) where
       let z = among_none p (line m r) (stands_once m S p q r h (not_head q r qs n)) in
       let c = count_append p (line m r) (joined (line m) qs) in
       omega arith
+
   -- a place stands once in its line, ..
   once_in : (p q : ℕ) → count p (line m q) ≤ 1
   once_in p q = let e = S.stood p q in let b = bit_low (belongs m (thread m p) q) in omega arith
+
   -- .. and so once in different lines together
   once : (p : ℕ) (qs : List ℕ) → Distinct qs → count p (joined (line m) qs) ≤ 1
   once p [] d = omega arith
@@ -124,11 +126,14 @@ module _ (m : Model) (S : Sound m) where
       by_test (among p (line m q))
       (λ t. let a = once_in p q in let b = absent p q t qs d.0 in omega arith)
       (λ t. let a = among_none p (line m q) t in omega arith)
+
   no_place_in : (qs : List ℕ) (i : ℕ) → places ≤ i → among i (joined (line m) qs) ≡ false
   no_place_in [] i h = refl
   no_place_in (q ∷ qs) i h = not_append i (line m q) (joined (line m) qs) (no_place m S q i h) (no_place_in qs i h)
+
   lines_few : (qs : List ℕ) → Distinct qs → length (joined (line m) qs) ≤ places
   lines_few qs d = pigeon places (joined (line m) qs) (no_place_in qs) (count_distinct (joined (line m) qs) (λ p. once p qs d))
+
   pub queues_few : (row : Row) → row.queues ≤ queue_count → length (queues row m) + length (inboxes m (live_places m)) ≤ places
   queues_few row h =
       let a = lines_few (all_lines row m) (all_distinct row m h) in

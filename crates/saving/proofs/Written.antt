@@ -8,14 +8,14 @@ use Rattle.lists.specs.Sizes.{queue_count}
 use Rattle.lists.specs.Lists.{none, tally}
 use Rattle.lists.specs.Bytes.{two_bytes}
 use Rattle.lists.specs.Laid.{laid, Wrote, laid_length, wrote_then, wrote_front, Going, going_start, going_by, going_room, going_more, going_last}
-use Rattle.lines.specs.Lines.{line_of, Tidy}
+use Rattle.lines.specs.Lines.{line_of}
 use Rattle.filled.specs.Filled.{width, word_of}
-use Rattle.rules.specs.Model.{places, line_count, Model, line, live}
+use Rattle.rules.specs.Model.{places, line, live}
 use Rattle.table.specs.Cells.{shown, stands_at, StandsBy}
 use Rattle.table.specs.Rows.{line_at}
 use Rattle.table.specs.Choose.{live_is}
 use Rattle.table.specs.declared.Desk.{Desk}
-use Rattle.saving.specs.Format.{total_at, head_length, entry_length, queues_in, sizes, joined, queue_lengths, queues, first_body, head, encode_as}
+use Rattle.saving.specs.Format.{total_at, head_length, entry_length, queue_lengths, queues, head, encode_as}
 use Rattle.saving.specs.Queues.{sizes_same, joined_same, lengths_length}
 use Rattle.saving.specs.Longest.{longest_image}
 use Rattle.saving.proofs.Longest.{live_length, tail_length, encode_length, longest_as}
@@ -27,8 +27,10 @@ use Rattle.saving.specs.Written.{Written, PutsContents, PutsTail, lengths_in, wa
 module _ (row : Row) (h : row.queues ≤ queue_count) (b w l : List ℕ) where
   same : (q : ℕ) → q < queue_count → line (held b w l) q ≡ line_of places l q
   same q k = line_at none none b w l q (omega arith)
+
   lengths_are : queue_lengths row (held b w l) ≡ lengths_in row l
   lengths_are = sizes_same (line (held b w l)) (line_of places l) queue_count same row h
+
   queues_are : queues row (held b w l) ≡ waiting_in row l
   queues_are = joined_same (line (held b w l)) (line_of places l) queue_count same row h
 
@@ -36,6 +38,7 @@ module _ (row : Row) (h : row.queues ≤ queue_count) (b w l : List ℕ) where
 module _ {row : Row} {b w l s : List ℕ} {o : ℕ} (k : PutsTail row b w l s o) where
   tail_is : tail_in row b w l ≡ contents_in row b w l o ++ (waiting_in row l ++ bodies_in row b w l)
   tail_is = rw (← k.first, queues_are row k.few b w l)
+
   pub tail_contents : PutsContents row b w l s (head_length row) o
   tail_contents = record {
     lines = k.lines;
@@ -46,16 +49,21 @@ module _ {row : Row} {b w l s : List ℕ} {o : ℕ} (k : PutsTail row b w l s o)
         omega arith;
     low = let a = tail_length row (held b w l) in let c = k.first in let h = k.low in omega arith;
   }
+
   start : Going (laid s (head_length row) (tail_in row b w l)) (head_length row + length (tail_in row b w l)) s (head_length row) (contents_in row b w l o ++ (waiting_in row l ++ bodies_in row b w l))
   start = going_by (going_start s (head_length row) (tail_in row b w l) k.room) tail_is
+
   module _ {t : List ℕ} {r : ℕ} (p₁ : Wrote s (head_length row) (contents_in row b w l o) t r) where
     pub queues_room : r + length (waiting_in row l) ≤ length t
     queues_room = going_room (waiting_in row l) (bodies_in row b w l) (going_more start p₁)
+
     module _ {u : List ℕ} {v : ℕ} (p₂ : Wrote t r (waiting_in row l) u v) where
       left : Going (laid s (head_length row) (tail_in row b w l)) (head_length row + length (tail_in row b w l)) u v (bodies_in row b w l)
       left = going_more (going_more start p₁) p₂
+
       pub bodies_room : v + length (bodies_in row b w l) ≤ length u
       bodies_room = let a = left.ends in let c = left.room in omega arith
+
       pub tail_whole : {z : List ℕ} {e : ℕ} → Wrote u v (bodies_in row b w l) z e → Wrote s (head_length row) (tail_in row b w l) z e
       tail_whole p₃ = going_last left p₃
 
@@ -63,6 +71,7 @@ module _ {row : Row} {b w l s : List ℕ} {o : ℕ} (k : PutsTail row b w l s o)
 module _ (row : Row) (l : List ℕ) (y x n k : ℕ) (s : List ℕ) (room : head_length row ≤ length s) {xs : List ℕ} (ex : xs ≡ row.edition ∷ y ∷ x ∷ n ∷ []) where
   pub first_room : 0 + length xs ≤ length s
   first_room = let a = ap length ex in omega arith
+
   module _ {t : List ℕ} {r : ℕ} (p : Wrote s 0 xs t r) where
     pub lengths_room : r + length (lengths_in row l) ≤ length t
     lengths_room =
@@ -71,15 +80,18 @@ module _ (row : Row) (l : List ℕ) (y x n k : ℕ) (s : List ℕ) (room : head_
         let d = p.next in
         let e = ap length p.bytes ∙ laid_length s 0 xs first_room in
         omega arith
+
     module _ {u : List ℕ} {v : ℕ} (q : Wrote t r (lengths_in row l) u v) {ys : List ℕ} (ey : ys ≡ two_bytes k) where
       both : Wrote s 0 (xs ++ lengths_in row l) u v
       both = wrote_then p q (let a = ap length ex in let c = lengths_length (line_of places l) row in omega arith)
+
       both_length : length (xs ++ lengths_in row l) ≡ total_at row
       both_length =
           let a = ap length ex in
           let c = lengths_length (line_of places l) row in
           let d = length-append xs (lengths_in row l) in
           omega arith
+
       pub total_room : v + length ys ≤ length u
       total_room =
           let a = ap length ey in
@@ -87,6 +99,7 @@ module _ (row : Row) (l : List ℕ) (y x n k : ℕ) (s : List ℕ) (room : head_
           let d = both.next in
           let e = ap length both.bytes ∙ laid_length s 0 (xs ++ lengths_in row l) (omega arith) in
           omega arith
+
       pub head_whole : {z : List ℕ} {e : ℕ} → Wrote u v ys z e → Wrote s 0 (head_of row y x n (lengths_in row l) k) z e
       head_whole w =
           let a = ap length ey in
@@ -97,11 +110,14 @@ module _ (row : Row) (l : List ℕ) (y x n k : ℕ) (s : List ℕ) (room : head_
 module _ (row : Row) (few : row.queues ≤ queue_count) {d : Desk} {b w l : List ℕ} (k : StandsBy false d b w l) where
   whole_length : length (encode_as row (shown d b w l)) ≡ head_length row + length (tail_in row b w l)
   whole_length = encode_length row (shown d b w l) ∙ ap (λ (t : List ℕ). head_length row + length t) (tail_same d.last.0 d.running.0 b w l row)
+
   whole_low : head_length row + length (tail_in row b w l) ≤ longest_image
   whole_low = let a = whole_length in let c = longest_as row (shown d b w l) few k.consistent in omega arith
+
   module _ {n : ℕ} (en : (f : ℕ → Bool) → d.filled ≡ word_of width f → n ≡ tally width f) where
     count_is : n ≡ live (shown d b w l)
     count_is = en (stands_at b) k.filled ∙ sym (live_is d b w l)
+
     pub write_tail : {o : ℕ} {s : List ℕ} → o ≡ head_length row + entry_length * n + length (waiting_in row l) → longest_image ≤ length s → PutsTail row b w l s o
     write_tail eo h = record {
       lines = k.whole.lines;
@@ -113,18 +129,23 @@ module _ (row : Row) (few : row.queues ≤ queue_count) {d : Desk} {b w l : List
       room = let a = whole_low in omega arith;
       low = whole_low;
     }
+
     module _ {s t : List ℕ} {e : ℕ} (p : Wrote s (head_length row) (tail_in row b w l) t e) (h : longest_image ≤ length s) where
       pub write_low : e ≤ longest_image
       write_low = let a = p.next in let c = whole_low in omega arith
+
       pub write_head : head_length row ≤ length t
       write_head = let a = whole_low in let c = ap length p.bytes ∙ laid_length s (head_length row) (tail_in row b w l) (omega arith) in omega arith
+
       head_is : head_of row d.last.0 d.running.0 n (lengths_in row l) e ≡ head row (shown d b w l)
       head_is = rw (count_is, ← lengths_are row few b w l, p.next, tail_same d.last.0 d.running.0 b w l row)
+
       head_length_lem : length (head_of row d.last.0 d.running.0 n (lengths_in row l) e) ≡ head_length row
       head_length_lem =
           let a = length-append (lengths_in row l) (two_bytes e) in
           let c = lengths_length (line_of places l) row in
           omega arith
+
       pub write_whole : {u : List ℕ} {v : ℕ} → Wrote t 0 (head_of row d.last.0 d.running.0 n (lengths_in row l) e) u v → Written row (shown d b w l) s u e
       unfolding encode_as
       write_whole q = record {

@@ -1,16 +1,9 @@
 -- The contents and the bodies, place by place: what the code that writes one place is held to.
-use Rattle.std.specs.Prelude.{ℕ, ◌+◌, ◌≤◌, ◌<◌, ◌≡◌, refl, List, [], ◌∷◌, ◌++◌, true, false, not, length, set, eqb}
-use Rattle.std.proofs.Common.{sym, ap, ◌∙◌, append-nil, arith, length-append, length-set, eq-eqb, ne_eqb}
-use Rattle.lists.specs.Sizes.{queue_count}
-use Rattle.lists.specs.Lists.{bit, none}
-use Rattle.lists.specs.Bytes.{two_bytes}
-use Rattle.lists.specs.Laid.{Wrote, laid_none, laid_length, laid_one, wrote_then}
-use Rattle.lines.specs.Lines.{line_of, Tidy}
-use Rattle.rules.specs.Model.{Place, Number, places, line_count, Empty, Thread, Model, inbox, line, lives_at}
-use Rattle.table.specs.Cells.{thread_of}
-use Rattle.table.specs.Rows.{thread_at, line_at}
-use Rattle.saving.specs.Format.{body_length, thread_bytes, parent_bytes, body_of, bodies, contents}
-use Rattle.saving.specs.Queues.{inbox_at}
+use Rattle.std.specs.Prelude.{ℕ, ◌+◌, ◌≤◌, ◌<◌, ◌≡◌, List, length}
+use Rattle.lists.specs.Laid.{Wrote}
+use Rattle.lines.specs.Lines.{Tidy}
+use Rattle.rules.specs.Model.{Place, places, line_count, Model}
+use Rattle.saving.specs.Format.{bodies, contents}
 use Rattle.saving.specs.Longest.{longest_image}
 use Rattle.saving.specs.Parts.{held, here, body_in}
 use Rattle.saving.specs.declared.format.Row.{Row}

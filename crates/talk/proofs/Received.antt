@@ -9,7 +9,7 @@ use Rattle.lists.specs.Search.{first_ext_in, found_in}
 use Rattle.lines.specs.Lines.{line_of}
 use Rattle.rules.specs.Values.{nobody}
 use Rattle.rules.specs.Model.{places, last_number, Awaiting, Receiving, Thread, Model, inbox, thread, line}
-use Rattle.rules.specs.Rules.{mine, stands, told, leave, wants, takes, receive_from, receive, no_number, no_source, own_number, not_live, dead_source, refusal}
+use Rattle.rules.specs.Rules.{mine, stands, told, leave, wants, takes, receive_from, receive, no_number, no_source, own_number, not_live, dead_source}
 use Rattle.rules.specs.declared.Number.{Number}
 use Rattle.rules.specs.declared.Event.TheVariants.{Receive}
 use Rattle.order.specs.Accepted.{accepted}
@@ -41,9 +41,11 @@ module _ {d : Desk} {b : List ℕ} (n : Number) where
       let a = e w l k in
       let g : addressing m n.0 0 ≡ r.code = by_test (eqb r.code 0) (λ u. let y = eqb-true _ _ u in a.past y 0 ∙ sym y) (λ u. a.not (eqb-false _ _ u) 0) in
       sym g ∙ sym (rw (s, t))
+
   module _ (any : n.0 ≡ nobody) where
     pub source_1 : d.running.0 ≡ none → Sources d b n 1
     source_1 e w l k = rw (eq-eqb d.running.0 none e)
+
     pub source_0 : (d.running.0 ≡ none → ⊥) → Sources d b n 0
     source_0 busy w l k =
         let m = shown d b w l in
@@ -76,6 +78,7 @@ suits m n p = wants n (thread m p).number
 module _ {d : Desk} {b w l : List ℕ} (k : Stands d b w l) (busy : d.running.0 ≡ none → ⊥) (n : ℕ) {r : ℕ} (f : r ≡ picked b l (inbox_lines + d.running.0) n) where
   at_place : (p : ℕ) → 1 ≤ count p (inbox_of (shown d b w l)) → p < places
   at_place p h = stands_at_lem (shown d b w l) (sounds k) p (inbox d.running.0) (some_among p (inbox_of (shown d b w l)) h)
+
   search : first_of (suits (shown d b w l) n) (inbox_of (shown d b w l)) ≡ r
   search =
       let m = shown d b w l in
@@ -83,16 +86,20 @@ module _ {d : Desk} {b w l : List ℕ} (k : Stands d b w l) (busy : d.running.0 
       let e : inbox_of m ≡ line_of places l (inbox_lines + d.running.0) = line_at d.last.0 d.running.0 b w l (inbox d.running.0) (omega arith) ∙ rw (inbox_line d.running.0) in
       first_ext_in (suits m n) (taken b n) (inbox_of m) (λ p i. ap (λ (t : Thread). wants n t.number) (thread_at d.last.0 d.running.0 b w l p (at_place p i)))
       ∙ ap (first_of (taken b n)) e ∙ sym f
+
   looked : receive n (shown d b w l) ≡ receive_from r n (shown d b w l)
   looked = ap (λ (p : ℕ). receive_from p n (shown d b w l)) search
+
   pub match_place : (r ≡ none → ⊥) → r < places
   match_place z =
       let m = shown d b w l in
       at_place r (subst (λ (p : ℕ). 1 ≤ count p (inbox_of m)) search (found_in (suits m n) (inbox_of m) (λ y. z (sym search ∙ y))))
+
   pub received : (r ≡ none → ⊥) → {b' w' l' : List ℕ} → Steps b w l b' w' l' (takes d.running.0 r) → Turns d b w l d b' w' l' (receive n)
   received z s =
       let t = stays {d = d} s in
       record { whole = t.whole; filled = refl; seen = t.seen ∙ sym (looked ∙ rw (ne_eqb r none z)) }
+
   pub receives : r ≡ none → {e : Desk} {b' w' : List ℕ} → Steps b w l b' w' l (changing d.running.0 (stands Receiving n 0)) → e ≡ running none d → Turns d b w l e b' w' l (receive n)
   receives z s y = turns (receive n) s y (sym (looked ∙ rw z))
 
@@ -100,8 +107,10 @@ module _ {d : Desk} {b w l : List ℕ} (k : Stands d b w l) (busy : d.running.0 
 module _ {d : Desk} {b w l : List ℕ} (k : Stands d b w l) (n : Number) {c : ℕ} (a : Sources d b n c) where
   pub receive_not : (c ≡ 0 → ⊥) → {o : Outcome} → o ≡ answered c d → Did d b w l (Receive n) o b w l
   receive_not z = refused k (Receive n) no_word c z (sym (a w l k)) refl
+
   module _ (z : c ≡ 0) where
     pub receive_busy : d.running.0 ≡ none → ⊥
     receive_busy = (accepted (Receive n) (shown d b w l) (sym (a w l k) ∙ z)).0
+
     pub receive_0 : {e : Desk} {b' w' l' : List ℕ} → Turns d b w l e b' w' l' (receive n.0) → {o : Outcome} → o ≡ answered 0 e → Did d b w l (Receive n) o b' w' l'
     receive_0 t = done k (Receive n) no_word (sym (a w l k) ∙ z) refl (λ p. refl) t

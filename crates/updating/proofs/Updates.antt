@@ -1,8 +1,8 @@
 -- WHAT THE UPDATE LOAD PROMISES, of any bytes whatever (document 02, P2): it refuses as load does, but takes what the old rules call consistent and wakes each
 -- receiver that names a dead thread. That it settles the answer, and what it comes to: below.
-use Rattle.std.specs.Prelude.{ℕ, ◌≤◌, ◌≡◌, refl, ◌≢◌, List}
+use Rattle.std.specs.Prelude.{ℕ, ◌≡◌, refl, ◌≢◌, List}
 use Rattle.std.proofs.Common.{sym, ap, subst, ◌∙◌, arith}
-use Rattle.rules.specs.Model.{Sending, Awaiting, Model, inbox, thread, line}
+use Rattle.rules.specs.Model.{Model}
 use Rattle.rules.specs.Rules.{updated}
 use Rattle.rules.specs.Consistent.{OldConsistent, Consistent}
 use Rattle.order.specs.Update.{updates, unanswered, same_inboxes, update_same}

@@ -1,14 +1,14 @@
 -- "An edition 1 image with such a receiver: load 10, update wakes it" (document 02, P2): thread 1 was created and has ended, and 0 receives from it still,
 -- as the old rules had it. A row of the table of counted cases (recovery), and tied to what load and the update load promise.
 use Rattle.std.specs.Prelude.{ℕ, zero, suc, ◌-◌, ◌≤◌, ◌≡◌, refl, ◌≢◌, List, [], ◌∷◌, ◌++◌, replicate}
-use Rattle.std.proofs.Common.{subst, arith}
+use Rattle.std.proofs.Common.{arith}
 use Rattle.lists.specs.Lists.{none, tally}
 use Rattle.lists.specs.Sizes.{places, devices}
 use Rattle.lists.specs.Tables.{all_same}
 use Rattle.rules.specs.Values.{nobody}
 use Rattle.rules.specs.Model.{line_count, Empty, Running, Sending, Awaiting, Receiving, Thread, vacant, Model, thread, line, all_places}
-use Rattle.rules.specs.Rules.{outside, choice, updated}
-use Rattle.rules.specs.Consistent.{OldConsistent, ListensToLive}
+use Rattle.rules.specs.Rules.{choice, updated}
+use Rattle.rules.specs.Consistent.{OldConsistent}
 use Rattle.rules.specs.declared.Choice.TheVariants.{Run, Stuck}
 use Rattle.order.specs.KinKept.{kin_older}
 use Rattle.order.specs.Sound.{Fit, Sound, old_whole}
@@ -17,10 +17,7 @@ use Rattle.order.specs.End.{fit_vacant}
 use Rattle.nucleus.specs.View.{Shows}
 use Rattle.saving.specs.Format.{queues_of, parents_of, places_of, row_of, Known, Holds, queues_in, encode_as}
 use Rattle.saving.specs.Editions.{known_of}
-use Rattle.loading.specs.Loads.{Foreign, Loads, OldImage}
-use Rattle.loading.proofs.Injective.{image_one}
-use Rattle.loading.specs.Judges.{head_image}
-use Rattle.loading.proofs.Accepts.{refuses}
+use Rattle.loading.specs.Loads.{Loads, OldImage}
 use Rattle.loading.specs.declared.Loaded.{Loaded}
 use Rattle.updating.specs.Updates.{Updates}
 

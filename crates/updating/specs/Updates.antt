@@ -1,17 +1,10 @@
 -- WHAT THE UPDATE LOAD PROMISES, of any bytes whatever (document 02, P2): it refuses as load does, but takes what the old rules call consistent and wakes each
 -- receiver that names a dead thread. That it settles the answer, and what it comes to: below.
-use Rattle.std.specs.Prelude.{ℕ, ◌≤◌, ◌≡◌, refl, ◌≢◌, List}
-use Rattle.std.proofs.Common.{sym, ap, subst, ◌∙◌, arith}
+use Rattle.std.specs.Prelude.{ℕ, ◌≤◌, ◌≡◌, List}
 use Rattle.rules.specs.Model.{Sending, Awaiting, Model, inbox, thread, line}
 use Rattle.rules.specs.Rules.{updated}
-use Rattle.rules.specs.Consistent.{OldConsistent, Consistent}
-use Rattle.order.specs.Update.{updates, unanswered, same_inboxes, update_same}
-use Rattle.nucleus.specs.View.{view, Shows}
-use Rattle.nucleus.specs.Settled.{shows_one}
-use Rattle.nucleus.specs.declared.State.{State}
-use Rattle.loading.specs.Loads.{head_code, Refused, bad_head, good_head, foreign, accepted, by_head, by_whole, Image, Loads, OldImage, LoadsOld, OldRefuses}
-use Rattle.loading.proofs.Injective.{image_one}
-use Rattle.loading.proofs.Accepts.{loaded_is, refused_one, refuses_not, refuses_one, accepted_of}
+use Rattle.nucleus.specs.View.{Shows}
+use Rattle.loading.specs.Loads.{Refused, OldImage, OldRefuses}
 use Rattle.loading.specs.declared.Loaded.{Loaded}
 
 pub data Updates (s : List ℕ) (r : Loaded) : Type 0 where

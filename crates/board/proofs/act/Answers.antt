@@ -1,7 +1,6 @@
 -- `act` meets its contract: the event's refusal, 7, or the new image.
 use Rattle.nucleus.specs.View.{view}
 use Rattle.board.specs.Answers.{save_short, act_refused, act_short, act_done}
-use borrow.Author.Rules.{rules}
 use Rattle.board.proofs.act.Goals as goal
 
 pub returns-then-r-ne-DONE : goal.returns-then-r-ne-DONE

@@ -1,6 +1,5 @@
 -- `begin` meets its contract: 7, or the fresh image.
 use Rattle.board.specs.Answers.{save_short, fresh_saved}
-use borrow.Author.Rules.{rules}
 use Rattle.board.proofs.begin.Goals as goal
 
 pub keep-requires : goal.keep-requires

@@ -1,6 +1,5 @@
 -- `bring` meets its contract: load's refusal, or what the log comes to.
 use Rattle.board.specs.Answers.{bring_refused, load_holds, bring_played}
-use borrow.Author.Rules.{rules}
 use Rattle.board.proofs.bring.Goals as goal
 
 pub returns-then-from-ne-DONE : goal.returns-then-from-ne-DONE

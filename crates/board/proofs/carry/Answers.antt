@@ -1,6 +1,5 @@
 -- `carry` meets its contract: load's refusal, or the image after the update.
 use Rattle.board.specs.Answers.{carry_refused, carry_holds, carry_taken}
-use borrow.Author.Rules.{rules}
 use Rattle.board.proofs.carry.Goals as goal
 
 pub returns-then-from-ne-DONE : goal.returns-then-from-ne-DONE

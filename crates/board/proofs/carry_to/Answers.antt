@@ -1,6 +1,5 @@
 -- `carry_to` meets its contract: 7, or the image of the state.
 use Rattle.board.specs.Answers.{carry_short, carry_done, carry_narrow}
-use borrow.Author.Rules.{rules}
 use Rattle.board.proofs.carry_to.Goals as goal
 
 pub returns-then-saved-ne-DONE : goal.returns-then-saved-ne-DONE

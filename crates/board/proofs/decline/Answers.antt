@@ -1,6 +1,5 @@
 -- `decline` meets its contract.
 use mathlib.Core.Path.{refl}
-use borrow.Author.Rules.{rules}
 use Rattle.board.proofs.decline.Goals as goal
 
 pub returns : goal.returns

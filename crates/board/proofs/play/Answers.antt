@@ -1,6 +1,5 @@
 -- `play` meets its contract: 11, 7, or the image after the whole records.
 use Rattle.board.specs.Answers.{save_short, play_long, plays_shows, play_short, play_done}
-use borrow.Author.Rules.{rules}
 use Rattle.board.proofs.play.Goals as goal
 
 pub returns-then-log-gt-LIMIT : goal.returns-then-log-gt-LIMIT

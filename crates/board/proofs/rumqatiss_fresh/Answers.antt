@@ -1,5 +1,4 @@
 -- `rumqatiss_fresh` meets its contract: what `begin` says, with the length in two bytes.
-use borrow.Author.Rules.{rules}
 use Rattle.board.proofs.rumqatiss_fresh.Goals as goal
 
 pub narrow-requires : goal.narrow-requires

@@ -1,7 +1,6 @@
 -- `rumqatiss_look_up` meets its contract: what `locate` says, in two bytes each.
 use native.Mathlib.Omega.{arith}
 use Rattle.board.specs.Answers.{locate_short}
-use borrow.Author.Rules.{rules}
 use Rattle.board.proofs.rumqatiss_look_up.Goals as goal
 
 pub narrow-requires : goal.narrow-requires

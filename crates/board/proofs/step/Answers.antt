@@ -1,6 +1,5 @@
 -- `step` meets its contract: load's refusal, or what the record comes to.
 use Rattle.board.specs.Answers.{step_refused, load_holds, step_taken}
-use borrow.Author.Rules.{rules}
 use Rattle.board.proofs.step.Goals as goal
 
 pub returns-then-from-ne-DONE : goal.returns-then-from-ne-DONE

@@ -1,10 +1,7 @@
 -- `take` meets its contract: 13, 12, or what the one event comes to.
-use mathlib.Core.List.{[], ◌∷◌}
-use types.Run.{miss}
 use Rattle.nucleus.specs.View.{view}
 use Rattle.logging.proofs.Reading.{stop_or}
 use Rattle.board.specs.Answers.{take_bad, take_more, take_one}
-use borrow.Author.Rules.{rules}
 use Rattle.board.proofs.take.Goals as goal
 
 pub returns-in_default : goal.returns-in_default

@@ -1,6 +1,5 @@
 -- `uncarry` meets its contract.
 use mathlib.Core.Path.{refl}
-use borrow.Author.Rules.{rules}
 use Rattle.board.proofs.uncarry.Goals as goal
 
 pub returns : goal.returns

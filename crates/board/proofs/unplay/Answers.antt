@@ -1,6 +1,5 @@
 -- `unplay` meets its contract.
 use mathlib.Core.Path.{refl}
-use borrow.Author.Rules.{rules}
 use Rattle.board.proofs.unplay.Goals as goal
 
 pub returns : goal.returns
