@@ -1,4 +1,5 @@
 -- WHAT ONE READS OFF A REPORT: who lives, at which place, in which standing and with which partner. All of it is as the state has it.
+-- Here stand the words; the laws of them stand in proofs/Crew.antt.
 use Rattle.std.specs.Prelude.{List, [], ◌∷◌, map, Bool, cond, ℕ, get_or, drop}
 use Rattle.lists.specs.Lists.{only}
 use Rattle.rules.specs.Values.{nobody}

@@ -1,5 +1,6 @@
 -- THE DOCUMENT'S OWN TEXT (document 02, P7): for document 01's 43-byte image and an empty log. It is computed, and whoever meets the promise has it; and so are
 -- texts with each of the other words, and the one line for nothing at all.
+-- Here stand the words; the laws of them stand in proofs/Example.antt.
 use Rattle.std.specs.Prelude.{List, [], ◌∷◌, ℕ}
 
 abbrev pub image : List ℕ

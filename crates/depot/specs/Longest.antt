@@ -1,4 +1,5 @@
 -- THE LONGEST TEXT: no report is longer than 2,114 bytes, and no text of loads longer than 3,247. Both are reached (Reached.antt).
+-- Here stand the words; the laws of them stand in proofs/Longest.antt.
 use Rattle.std.specs.Prelude.{ℕ, ◌+◌, ◌*◌}
 use Rattle.rules.specs.Model.{places}
 use Rattle.depot.specs.Lengths.{load_length, last_length}

@@ -1,4 +1,5 @@
 -- WHAT ONE READS OFF THE LOADS SHEET: every send that is not answered yet, with its word, and whether it was received. That is as the state has it.
+-- Here stand the words; the laws of them stand in proofs/Owed.antt.
 use Rattle.std.specs.Prelude.{List, [], map, Bool, ℕ, eqb, get_or}
 use Rattle.lists.specs.Lists.{only}
 use Rattle.rules.specs.Model.{Place, Number, Word, Awaiting, Model, thread, all_places}

@@ -1,4 +1,5 @@
 -- THE LONGEST TEXTS ARE REACHED: for each sheet there are the image of a state that a history leads to, and a log, of which the text is as long as any can be.
+-- Here stand the words; the laws of them stand in proofs/Reached.antt.
 use Rattle.std.specs.Prelude.{◌≡◌, List, ℕ, length}
 use Rattle.depot.specs.Report.{Finding, text_of}
 use Rattle.depot.specs.Promise.{Finds}

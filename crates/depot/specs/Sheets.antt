@@ -1,5 +1,6 @@
 -- BOTH SHEETS, READ: every word of theirs is plain, so that the lines of a text are read back, for any bytes whatever; how many there are; and what a reader of
 -- lines finds among them that passes by all but the places' own.
+-- Here stand the words; the laws of them stand in proofs/Sheets.antt.
 use Rattle.std.specs.Prelude.{◌≡◌, List, [], ◌∷◌, ◌++◌, Bool, true, false, ℕ}
 use Rattle.rules.specs.Model.{Place, Code, Model}
 use Rattle.rules.specs.Consistent.{Consistent}

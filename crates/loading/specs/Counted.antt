@@ -1,5 +1,6 @@
 -- The images of "Loads that were counted" (document 01), and those of document 02's P1, P5 and P6: one table, and both ways: loading these bytes gives the
 -- state, and saving the state gives the bytes of the newest edition.
+-- Here stand the words; the laws of them stand in proofs/Counted.antt.
 use Rattle.std.specs.Prelude.{ℕ, ◌≤◌, ◌≡◌, List, [], ◌∷◌, ◌++◌, length, take, replicate}
 use Rattle.lists.specs.Sizes.{devices}
 use Rattle.rules.specs.Model.{Model}

@@ -1,5 +1,6 @@
 -- Which places an image names: none that its edition has not, wherever it stands (document 02, P6). So bytes of an edition below 4 that name a place which
 -- there was not before P6 get 10, by the rules as they are and by the old ones, so that the update refuses them too.
+-- Here stand the words; the laws of them stand in proofs/Named.antt.
 use Rattle.std.specs.Prelude.{ℕ, ◌+◌, ◌<◌, ◌≡◌, ◌≢◌, List, true, take, drop}
 use Rattle.std.proofs.Math.ListN.{get_or}
 use Rattle.lists.specs.Lists.{none, among}

@@ -1,5 +1,6 @@
 -- What each accepted event does to a Sound nucleus, before the front of ready is started: a Step, in which nobody comes or goes,
 -- for create a Swap of one place, and for end a family is dropped.
+-- Here stand the words; the laws of them stand in proofs/Acts.antt.
 use Rattle.rules.specs.Model.{Model}
 use Rattle.rules.specs.Rules.{place_of, next_number, newcomer, creator, empty_place, act}
 use Rattle.rules.specs.declared.Event.{Event}

@@ -1,5 +1,6 @@
 -- Whom an answer names: after an event each answer is the one that was there before, or one from no thread (255), or it names the one that answers in this
 -- event, which lived when the event came.
+-- Here stand the words; the laws of them stand in proofs/Answerer.antt.
 use Rattle.std.specs.Prelude.{ℕ, ◌≤◌, ◌≡◌, ◌≢◌, ◌⊎◌}
 use Rattle.lists.specs.Lists.{none, count}
 use Rattle.rules.specs.Values.{nobody}

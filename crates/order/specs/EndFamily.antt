@@ -1,4 +1,5 @@
 -- What the end of a family comes to, by the rules' own end: `deep_enough`, `orphans_none`, `family_only`, and that what is consistent stays so.
+-- Here stand the words; the laws of them stand in proofs/EndFamily.antt.
 use Rattle.std.specs.Prelude.{ℕ, ◌≡◌, ◌≢◌, ◌⊎◌, List, false}
 use Rattle.kin.specs.Climb.{climb}
 use Rattle.kin.specs.Family.{OneByOne}

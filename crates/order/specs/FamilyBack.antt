@@ -1,5 +1,6 @@
 -- The end of a family: nothing enters ready except at the back. After it, ready is what stays of it, in its order, and behind that those who join; and
 -- nobody leaves ready and joins it again, since who leaves is gone.
+-- Here stand the words; the laws of them stand in proofs/FamilyBack.antt.
 use Rattle.std.specs.Prelude.{ℕ, ◌≡◌, List, ◌++◌, true, false}
 use Rattle.lists.specs.Lists.{among}
 use Rattle.rules.specs.Model.{Model, ready, line, lives_at}

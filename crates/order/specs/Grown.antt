@@ -1,4 +1,5 @@
 -- Ready, while an event acts: what stays of it, in its order, and behind that those who join.
+-- Here stand the words; the laws of them stand in proofs/Grown.antt.
 use Rattle.std.specs.Prelude.{ℕ, ◌≡◌, List, [], ◌∷◌, ◌++◌, true, false}
 use Rattle.lists.specs.Lists.{among}
 

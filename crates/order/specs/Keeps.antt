@@ -1,4 +1,5 @@
 -- A fresh nucleus is consistent, and every event, accepted or refused, keeps a consistent nucleus consistent: so does every history.
+-- Here stand the words; the laws of them stand in proofs/Keeps.antt.
 use Rattle.std.specs.Prelude.{List, [], ◌∷◌}
 use Rattle.rules.specs.Consistent.{Fits}
 use Rattle.rules.specs.declared.Event.{Event}

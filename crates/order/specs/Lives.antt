@@ -1,4 +1,5 @@
 -- Who lives after an accepted event: whoever lived before, but create fills the lowest empty place and end empties those of a family.
+-- Here stand the words; the laws of them stand in proofs/Lives.antt.
 use Rattle.std.specs.Prelude.{ℕ, Bool, true, false, cond, eqb}
 use Rattle.kin.specs.Climb.{leads}
 use Rattle.rules.specs.Model.{Model, lives_at, live}

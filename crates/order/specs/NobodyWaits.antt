@@ -1,4 +1,5 @@
 -- After an end nobody waits for one that ended, alone or with its family: nobody sends to it, awaits its reply or receives from it.
+-- Here stand the words; the laws of them stand in proofs/NobodyWaits.antt.
 use Rattle.std.specs.Prelude.{ℕ, ◌≤◌, ◌≡◌}
 use Rattle.rules.specs.Model.{Sending, Receiving, Model, thread}
 

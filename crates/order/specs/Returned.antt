@@ -1,6 +1,7 @@
 -- No send is lost where a family ends (document 02, P5): whoever was sending to one of it, or awaited its reply, comes back with 16, the receiver and its own
 -- word; or it was of the family itself, and ended. In the order of the ends: when the receiver's turn comes the sender has ended first, or the word comes back
 -- with that end.
+-- Here stand the words; the laws of them stand in proofs/Returned.antt.
 use Rattle.std.specs.Prelude.{◌≡◌}
 use Rattle.rules.specs.Model.{Ready, Thread}
 

@@ -1,5 +1,6 @@
 -- Every turn comes: in a consistent nucleus a ready thread with k ahead of it runs by the (k + 1)th slice end that acts, or is ended first,
 -- whatever events come between.
+-- Here stand the words; the laws of them stand in proofs/TurnComes.antt.
 use Rattle.std.specs.Prelude.{ℕ, suc, ◌+◌, ◌≤◌, ◌≡◌, ◌⊎◌, List, [], ◌∷◌, true, not, take, drop}
 use Rattle.lists.specs.Lists.{bit}
 use Rattle.rules.specs.Model.{Ready, Model, ready, thread, line}

@@ -1,5 +1,6 @@
 -- No number is given that somebody has or still holds. So a number in a live thread's answer never comes to mean another thread than the one that answered, as
 -- long as the answer stands.
+-- Here stand the words; the laws of them stand in proofs/Unheld.antt.
 use Rattle.std.specs.Prelude.{ℕ, List, [], ◌∷◌}
 use Rattle.rules.specs.Model.{Model}
 use Rattle.rules.specs.Rules.{next}

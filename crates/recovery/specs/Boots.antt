@@ -1,6 +1,7 @@
 -- A BOARD THAT COMES BACK (demand 3, as C sees it), boot after boot, as its start code does it: what `rumqatiss_fresh`, `rumqatiss_board` and
 -- `rumqatiss_replay` promise, and nothing else. So the C side need believe nothing but the rules. It begins with the fresh image, or with any image that the
 -- library takes, as one does that the build before an update has left.
+-- Here stand the words; the laws of them stand in proofs/Boots.antt.
 use Rattle.std.specs.Prelude.{◌≡◌, List, [], ◌∷◌, ◌++◌, cond, ℕ, ◌≤◌, ltb, length, take}
 use Rattle.rules.specs.Values.{choice_kind, choice_runs}
 use Rattle.rules.specs.Model.{Model}

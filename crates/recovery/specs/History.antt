@@ -1,5 +1,6 @@
 -- DEMAND 3, as a terminal lives it, over what the public operations promise and nothing else: events come, the state is saved, later events are recorded; the
 -- power fails at any byte of the log; the image is loaded and what is left of the log replayed; and so on, in any order, boot after boot.
+-- Here stand the words; the laws of them stand in proofs/History.antt.
 use Rattle.std.specs.Prelude.{◌≡◌, List, [], ◌++◌, ℕ, ◌≤◌, length, take}
 use Rattle.rules.specs.Rules.{fresh, choice, after}
 use Rattle.rules.specs.declared.Event.{Event}

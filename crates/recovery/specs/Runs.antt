@@ -1,5 +1,6 @@
 -- A BOARD THAT RUNS: any records handed over one after the other, each with the image that the last accepted call gave and a buffer with room. The images are
 -- those of the rules' states for that history, and codes, choices and numbers are the rules'. (The first image may be of any edition that is known.) From the first boot on, power failures among them: Boots.antt.
+-- Here stand the words; the laws of them stand in proofs/Runs.antt.
 use Rattle.std.specs.Prelude.{◌≡◌, ◌≢◌, List, [], ◌∷◌, ◌++◌, cond, ℕ, ◌≤◌, eqb, length, take}
 use Rattle.rules.specs.Values.{choice_kind, choice_runs}
 use Rattle.rules.specs.Model.{Model}

@@ -1,4 +1,5 @@
 -- EVERY TURN COMES, in the code (demand 2): `turn_comes` of the rules, said of a chain of replies of `State::step`.
+-- Here stand the words; the laws of them stand in proofs/Turns.antt.
 use Rattle.std.specs.Prelude.{◌≡◌, List, ◌∷◌, true, ℕ, suc}
 use Rattle.rules.specs.Model.{Model}
 use Rattle.rules.specs.Rules.{place_of, not_live}

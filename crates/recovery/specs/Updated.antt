@@ -1,4 +1,5 @@
 -- An update in the field (document 02, P2): the image that comes of it boots, and every send that was unanswered is so still, in its place with its word.
+-- Here stand the words; the laws of them stand in proofs/Updated.antt.
 use Rattle.std.specs.Prelude.{List, [], ℕ}
 use Rattle.rules.specs.Model.{Model}
 use Rattle.rules.specs.Rules.{updated}

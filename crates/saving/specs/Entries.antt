@@ -1,4 +1,5 @@
 -- The contents and the bodies, place by place: what the code that writes one place is held to.
+-- Here stand the words; the laws of them stand in proofs/Entries.antt.
 use Rattle.std.specs.Prelude.{ℕ, ◌+◌, ◌≤◌, ◌<◌, ◌≡◌, List, length}
 use Rattle.lists.specs.Laid.{Wrote}
 use Rattle.lines.specs.Lines.{Tidy}

@@ -1,5 +1,6 @@
 -- How long an image is: its parts, and that none is longer than the longest. A place stands in one line at most, so all lines together are no longer than one
 -- could be.
+-- Here stand the words; the laws of them stand in proofs/Longest.antt.
 use Rattle.std.specs.Prelude.{ℕ, ◌+◌, ◌*◌, List, map}
 use Rattle.rules.specs.Model.{Place, places, Model, inbox, line}
 use Rattle.saving.specs.Format.{newest, head_length, entry_length, body_length, joined}

@@ -1,4 +1,5 @@
 -- The image, written: what the writer is held to, and how its parts make it.
+-- Here stand the words; the laws of them stand in proofs/Written.antt.
 use Rattle.std.specs.Prelude.{ℕ, ◌+◌, ◌≤◌, ◌≡◌, length}
 use mathlib.Core.List.{List, ◌∷◌, ◌++◌}
 use Rattle.std.proofs.Math.ListN.{drop}

@@ -1,4 +1,5 @@
 -- Event 3, receive: the first match in the caller's inbox is taken, or the caller receives.
+-- Here stand the words; the laws of them stand in proofs/Received.antt.
 use Rattle.std.specs.Prelude.{◌≡◌, List, ℕ}
 use Rattle.rules.specs.Rules.{refusal}
 use Rattle.rules.specs.declared.Number.{Number}

@@ -1,5 +1,6 @@
 -- "An edition 1 image with such a receiver: load 10, update wakes it" (document 02, P2): thread 1 was created and has ended, and 0 receives from it still,
 -- as the old rules had it. A row of the table of counted cases (recovery), and tied to what load and the update load promise.
+-- Here stand the words; the laws of them stand in proofs/Counted.antt.
 use Rattle.std.specs.Prelude.{ℕ, zero, suc, ◌-◌, ◌≤◌, ◌≡◌, refl, ◌≢◌, List, [], ◌∷◌, ◌++◌, replicate}
 use Rattle.std.proofs.Common.{arith}
 use Rattle.lists.specs.Lists.{none, tally}

@@ -1,5 +1,6 @@
 -- WHAT THE UPDATE LOAD PROMISES, of any bytes whatever (document 02, P2): it refuses as load does, but takes what the old rules call consistent and wakes each
--- receiver that names a dead thread. That it settles the answer, and what it comes to: below.
+-- receiver that names a dead thread. That it settles the answer, and what it comes to, are laws.
+-- Here stand the words; the laws of them stand in proofs/Updates.antt.
 use Rattle.std.specs.Prelude.{ℕ, ◌≤◌, ◌≡◌, List}
 use Rattle.rules.specs.Model.{Sending, Awaiting, Model, inbox, thread, line}
 use Rattle.rules.specs.Rules.{updated}
