@@ -1,7 +1,7 @@
 -- Lines of places in one array of bytes: what the contracts of join, pop and leave speak of. With P places and N lines, cell p < P holds the place
 -- after p in its line, cell P + q the first place of line q, cell P + N + q the last. So a line starts at its own cell, P + q, as if that were the place before the first.
-use Rattle.std.specs.Prelude.{◌≡◌, List, [], ◌∷◌, true, false, cond, ℕ, zero, suc, ◌+◌, ◌<◌, eqb, length, get_or}
-use Rattle.lists.specs.Lists.{none, among, front, rest}
+use Rattle.std.specs.Prelude.{◌≡◌, List, [], ◌∷◌, true, false, cond, Option, ℕ, zero, suc, ◌+◌, ◌<◌, eqb, length, get_or}
+use Rattle.lists.specs.Lists.{none, known, among, front, rest}
 
 -- ---- the lines of an array
 -- the places after the cell c, at most n of them. (No abbrev: at a numeral n it would unfold n deep wherever it stands.)
@@ -68,9 +68,9 @@ abbrev pub next_in : ℕ → List ℕ → ℕ
 next_in p [] = none
 next_in p (x ∷ xs) = cond (eqb x p) (front xs) (next_in p xs)
 
--- r is who stands behind p, in whichever line p stands
-abbrev pub Next : ℕ → ℕ → List ℕ → ℕ → ℕ → Type 0
-Next P N l p r = (q : ℕ) → q < N → among p (line_of P l q) ≡ true → r ≡ next_in p (line_of P l q)
+-- r is who stands behind p, in whichever line p stands, if anybody does
+abbrev pub Next : ℕ → ℕ → List ℕ → ℕ → Option ℕ → Type 0
+Next P N l p r = (q : ℕ) → q < N → among p (line_of P l q) ≡ true → r ≡ known (next_in p (line_of P l q))
 
 -- the lines with line q made xs
 abbrev pub upd : (ℕ → List ℕ) → ℕ → List ℕ → ℕ → List ℕ

@@ -1,9 +1,9 @@
 -- A walk along a line, from its first place to the end, as a caller's loop makes it with `first` and `after`: what is left from each place on. Assumes nothing.
-use Rattle.std.specs.Prelude.{◌≡◌, List, [], ◌∷◌, true, ℕ, ◌+◌, ◌≤◌, ◌<◌, ltb, length}
+use Rattle.std.specs.Prelude.{◌≡◌, List, [], ◌∷◌, true, Option, ℕ, ◌+◌, ◌≤◌, ◌<◌, ltb, length}
 use Rattle.std.proofs.Common.{sym, ap, ◌∙◌, arith, ltb-true, ltb-false}
-use Rattle.lists.specs.Lists.{none, among, front, rest}
+use Rattle.lists.specs.Lists.{none, KnownBy, among, front, rest}
 use Rattle.lists.specs.Laws.{by_test, never, front_some}
-use Rattle.lines.specs.Lines.{line_of, Tidy, Next}
+use Rattle.lines.specs.Lines.{line_of, Tidy, next_in, Next}
 use Rattle.lines.specs.Arrays.{once, is_short}
 use Rattle.lines.specs.Along.{on_from, from_front, from_next, next_front, on_among, on_none, no_place}
 
@@ -49,14 +49,15 @@ module _ {P N : ℕ} {l : List ℕ} {q : ℕ} (k : Tidy P N l) (small : P ≤ no
       pub walk_place : p < P
       walk_place = by_test (ltb p P) (λ t. ltb-true p P t) (λ t. never walk_in (no_place k small p q h (ltb-false p P t)))
 
-      pub walk_on : {r : ℕ} → Next P N l p r → Passes P l q p r
-      walk_on {r} t =
+      pub walk_on : {o : Option ℕ} → Next P N l p o → KnownBy (Passes P l q p) o
+      walk_on t =
           let xs = line_of P l q in
-          let on : left P l q r ≡ rest (left P l q p) = ap (λ (x : ℕ). on_from x xs) (t q h walk_in) ∙ from_next p xs (once P N small l k q h) (no_place k small none q h small) walk_in in
-          record {
+          let r = next_in p xs in
+          let on : left P l q r ≡ rest (left P l q p) = from_next p xs (once P N small l k q h) (no_place k small none q h small) walk_in in
+          (r, t q h walk_in, record {
             left_is = walk_here P l q p at f ∙ rw on;
-            reaches = t q h walk_in ∙ next_front p xs ∙ ap front (sym on);
-          }
+            reaches = next_front p xs ∙ ap front (sym on);
+          })
 
 -- ---- the line is counted: n so far
 pub record Counting (P : ℕ) (l : List ℕ) (q n p : ℕ) : Type 0 where

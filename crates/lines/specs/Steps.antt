@@ -1,5 +1,5 @@
 -- What the inner functions tell one another, and what their loops keep: shaped for the proofs. No public contract speaks of it.
-use Rattle.std.specs.Prelude.{◌≡◌, List, [], ◌∷◌, ◌++◌, true, false, cond, ℕ, suc, ◌+◌, ◌≤◌, ◌<◌, eqb, length, get_or}
+use Rattle.std.specs.Prelude.{◌≡◌, List, [], ◌∷◌, ◌++◌, true, false, cond, ℕ, suc, ◌+◌, ◌<◌, eqb, length, get_or}
 use Rattle.lists.specs.Lists.{none, among}
 use Rattle.lines.specs.Lines.{line_of, Loose, Path, last_cell}
 
@@ -19,11 +19,6 @@ pub record Walked (P : ℕ) (l : List ℕ) (q p c : ℕ) : Type 0 where
   pub cell : c ≡ last_cell (P + q) fore
   pub ahead : Path P l c aft none
   pub missed : among p fore ≡ false
-
--- where a search for p in line q ended: at the cell before it, or at n
-pub record Sought (P n : ℕ) (l : List ℕ) (q p c : ℕ) : Type 0 where
-  pub hit : c < n → Behind P l q c p
-  pub miss : n ≤ c → among p (line_of P l q) ≡ false
 
 -- ---- the test whether an array is tidy
 -- how many places have no mark

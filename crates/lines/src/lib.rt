@@ -2,12 +2,12 @@
 // Byte p is the place after p in its line; byte PLACES + q the first place of line q; byte LAST + q its last. NONE stands where there is none.
 #![tactic(auto)]
 
-ghost use Rattle.std.specs.Prelude.{◌≡◌, [], ◌∷◌, ◌++◌, ◌+◌, ◌<◌, length};
-ghost use Rattle.lists.specs.Lists.{without, front};
+ghost use Rattle.std.specs.Prelude.{◌≡◌, [], ◌∷◌, ◌++◌, ◌+◌, ◌<◌, false, MatchOption};
+ghost use Rattle.lists.specs.Lists.{among, without, front, rest, known};
 ghost use Rattle.lists.specs.Tells.{Tells};
 ghost use Rattle.lists.specs.Sizes.{places, line_count, cells};
-ghost use Rattle.lines.specs.Lines.{line_of, Loose, Tidy, Turned, Popped, Clear, Whereabouts, Next};
-ghost use Rattle.lines.specs.Steps.{Behind, Sought, DoneUpTo};
+ghost use Rattle.lines.specs.Lines.{line_of, Loose, Tidy, Turned, Clear, Whereabouts, Next};
+ghost use Rattle.lines.specs.Steps.{Behind, DoneUpTo};
 
 // The sizes. Their other home is `Sizes.antt` of crate `lists`, which the contracts cite; no other line says how many places or lines there are, but for the
 // width of the word that has a digit for each place (`filled`).
@@ -28,27 +28,27 @@ pub const CELLS: usize = LAST + LINES;
 
 pub type Links = [u8; CELLS];
 
-// A byte as an index.
-fn wide(x: u8) -> usize
-    ensures { result ≡ x }
+// The place that a cell names, if it names one.
+fn known(cell: u8) -> Option<u8>
+    ensures { result ≡ known cell }
 {
-    x as usize
+    if cell == NONE { None } else { Some(cell) }
 }
 
-// Who is first in line q. NONE where nobody stands in it.
-pub fn first(l: &Links, q: u8) -> u8
+// Who is first in line q, if anybody stands in it.
+pub fn first(l: &Links, q: u8) -> Option<u8>
     requires { Tidy places line_count l.now × (q < line_count) }
-    ensures { result ≡ front (line_of places l.now q) }
+    ensures { result ≡ known (front (line_of places l.now q)) }
 {
-    l[PLACES + q as usize]
+    known(l[PLACES + q as usize])
 }
 
-// Who stands behind p in its line. NONE where p is the last.
-pub fn after(l: &Links, p: u8) -> u8
+// Who stands behind p in its line, if p is not the last.
+pub fn after(l: &Links, p: u8) -> Option<u8>
     requires { Tidy places line_count l.now × (p < places) }
     ensures { Next places line_count l.now p result }
 {
-    l[p as usize]
+    known(l[p as usize])
 }
 
 // p, which stands in no line, goes to the back of line q.
@@ -57,11 +57,9 @@ pub fn join(l: &mut Links, q: u8, p: u8)
     ensures { Turned places line_count l.old l.new q (line_of places l.old q ++ (p ∷ [])) }
 {
     let line = q as usize;
-    let last = l[LAST + line];
-    let at = if last == NONE {
-        PLACES + line
-    } else {
-        wide(last)
+    let at = match known(l[LAST + line]) {
+        Some(last) => last as usize,
+        None => PLACES + line,
     };
     l[at] = p;
     l[LAST + line] = p;
@@ -73,14 +71,14 @@ pub fn hang(l: &mut Links, q: u8, p: u8)
     requires { q < line_count }
     ensures { Tidy places line_count l.old → p < places → Loose line_count (line_of places l.old) p → Turned places line_count l.old l.new q (line_of places l.old q ++ (p ∷ [])) }
 {
-    if wide(p) >= PLACES {
+    if p as usize >= PLACES {
         return;
     }
-    let own = q as usize;
-    let last = wide(l[LAST + own]);
-    let at = if last < PLACES { last } else { PLACES + own };
+    let line = q as usize;
+    let last = l[LAST + line] as usize;
+    let at = if last < PLACES { last } else { PLACES + line };
     l[at] = p;
-    l[LAST + own] = p;
+    l[LAST + line] = p;
 }
 
 // p, which stands in line q behind the cell at, goes out. Its own cell is cleaned: else the same lines would have two arrays.
@@ -100,32 +98,31 @@ fn cut(l: &mut Links, q: u8, at: usize, p: u8)
     l[p as usize] = NONE;
 }
 
-// The first leaves line q, and is returned. Where the line is empty nothing changes, and NONE is returned.
-pub fn pop(l: &mut Links, q: u8) -> u8
+// The first leaves line q, and is returned. Where the line is empty nothing changes.
+pub fn pop(l: &mut Links, q: u8) -> Option<u8>
     requires { Tidy places line_count l.old × (q < line_count) }
-    ensures { Popped places line_count l.old l.new q result }
+    ensures who { result ≡ known (front (line_of places l.old q)) }
+    ensures line { Turned places line_count l.old l.new q (rest (line_of places l.old q)) }
 {
     let at = PLACES + q as usize;
-    let p = l[at];
-    if p != NONE {
-        cut(l, q, at, p);
-    }
-    p
+    let p = known(l[at])?;
+    cut(l, q, at, p);
+    Some(p)
 }
 
-// The cell behind which p stands in line q. CELLS where p is not in it.
-fn seek(l: &Links, q: u8, p: u8) -> usize
+// The cell behind which p stands in line q, if p is in it.
+fn seek(l: &Links, q: u8, p: u8) -> Option<usize>
     requires { Tidy places line_count l.now × (q < line_count) × (p < places) }
-    ensures { Sought places cells l.now q p result }
+    ensures { MatchOption result (among p (line_of places l.now q) ≡ false) (λ at. Behind places l.now q at p) }
 {
     let mut at = PLACES + q as usize;
     while l[at] != NONE {
         if l[at] == p {
-            return at;
+            return Some(at);
         }
-        at = wide(l[at]);
+        at = l[at] as usize;
     }
-    CELLS
+    None
 }
 
 // p leaves line q, wherever it stands in it. Where it is not in it nothing changes.
@@ -133,8 +130,7 @@ pub fn leave(l: &mut Links, q: u8, p: u8)
     requires { Tidy places line_count l.old × (q < line_count) × (p < places) }
     ensures { Turned places line_count l.old l.new q (without p (line_of places l.old q)) }
 {
-    let at = seek(l, q, p);
-    if at < CELLS {
+    if let Some(at) = seek(l, q, p) {
         cut(l, q, at, p);
     }
 }
@@ -154,7 +150,7 @@ fn mark(l: &Links, seen: &mut [u8; PLACES], q: u8) -> bool
     let line = q as usize;
     let mut at = PLACES + line;
     while l[at] != NONE {
-        let i = wide(l[at]);
+        let i = l[at] as usize;
         if i >= PLACES {
             return false;
         }
@@ -165,16 +161,9 @@ fn mark(l: &Links, seen: &mut [u8; PLACES], q: u8) -> bool
         at = i;
     }
     if at < PLACES {
-        return wide(l[LAST + line]) == at;
+        return l[LAST + line] as usize == at;
     }
     l[LAST + line] == NONE
-}
-
-// How long a slice is.
-fn size(s: &[u8]) -> usize
-    ensures { result ≡ length s.now }
-{
-    s.len()
 }
 
 // The lines are good: is NONE what follows each place that stands in no line?
@@ -182,44 +171,24 @@ fn ends(l: &Links, seen: &[u8; PLACES]) -> bool
     requires { DoneUpTo places line_count l.now seen.now line_count }
     ensures { Tells result (Whereabouts places line_count l.now seen.now) (Tidy places line_count l.now → ⊥) }
 {
-    let mut p = 0;
-    while p < PLACES {
-        if seen[p] == NONE {
-            if l[p] != NONE {
-                return false;
-            }
+    for p in 0..PLACES {
+        if seen[p] == NONE && l[p] != NONE {
+            return false;
         }
-        p += 1;
     }
-    // True for every array of this type; a proof does not know it of what is lent, and learns it here.
-    size(l) == CELLS
+    true
 }
 
-// Is the array tidy, and in which line does each place stand?
-#[derive(Drop)]
-pub struct Seats {
-    pub tidy: bool,
-    pub at: [u8; PLACES],
-}
-
-// Any bytes may come, also with rings in them. A walk goes on from a place once, so all walks together are no longer than the array.
-pub fn survey(l: &Links) -> Seats
-    ensures { Tells result.tidy (Whereabouts places line_count l.now result.at) (Tidy places line_count l.now → ⊥) }
+// In which line each place stands, if the array is tidy. Any bytes may come, also with rings in them. A walk goes on from a place once, so all walks together
+// are no longer than the array.
+pub fn survey(l: &Links) -> Option<[u8; PLACES]>
+    ensures { MatchOption result (Tidy places line_count l.now → ⊥) (λ at. Whereabouts places line_count l.now at) }
 {
     let mut at = [NONE; PLACES];
-    let mut q: u8 = 0;
-    while q < LINES as u8 {
+    for q in 0..LINES as u8 {
         if !mark(l, &mut at, q) {
-            return Seats {
-                tidy: false,
-                at: at,
-            };
+            return None;
         }
-        q += 1;
     }
-    let whole = ends(l, &at);
-    Seats {
-        tidy: whole,
-        at: at,
-    }
+    if ends(l, &at) { Some(at) } else { None }
 }

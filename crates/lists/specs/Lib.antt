@@ -10,3 +10,4 @@ pub mod Sizes
 pub mod Bytes
 pub mod Laid
 pub mod Every
+pub mod Known

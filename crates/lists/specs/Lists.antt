@@ -1,9 +1,17 @@
 -- The words about lists of places that the lines and the rules share. A place is a number; `none` stands where there is none.
-use Rattle.std.specs.Prelude.{◌≡◌, List, [], ◌∷◌, Bool, true, false, cond, ℕ, zero, suc, ◌+◌, eqb}
+use Rattle.std.specs.Prelude.{◌≡◌, List, [], ◌∷◌, Bool, true, false, cond, Option, Some, None, ℕ, zero, suc, ◌+◌, eqb}
 
 -- no place
 abbrev pub none : ℕ
 none = 255
+
+-- the place that a number stands for, if it stands for one
+abbrev pub known : ℕ → Option ℕ
+known x = cond (eqb x none) None (Some x)
+
+-- o is the place that a number stands for of which P holds, if that number stands for one
+abbrev pub KnownBy : (ℕ → Type 0) → Option ℕ → Type 0
+KnownBy P o = (x : ℕ) × (o ≡ known x) × P x
 
 -- 1 for yes, 0 for no
 abbrev pub bit : Bool → ℕ

@@ -10,14 +10,12 @@ use table::{Blocks, Desk};
 pub fn find(b: &Blocks, n: Number) -> Place
     ensures { result.0 ≡ found b.now n.0 }
 {
-    let mut i = 0;
-    while i < lines::PLACES {
+    for i in 0..lines::PLACES {
         if b[table::STANDING + i] != rules::EMPTY {
             if b[table::NUMBER + i] == n.0 {
                 return Place(i as u8);
             }
         }
-        i += 1;
     }
     Place(lines::NONE)
 }

@@ -9,8 +9,8 @@ use Rattle.lines.specs.Join.{hang_own, hang_some, join_turned}
 use Rattle.lines.proofs.hang.Goals as goal
 use Rattle.lines.proofs.hang.Goals.{else-last-lt-PLACES, then-last-lt-PLACES}
 
-pub returns-then-wide-ge-PLACES : goal.returns-then-wide-ge-PLACES
-returns-then-wide-ge-PLACES c = λ k h f. absurd (omega arith)
+pub returns-then-p-ge-PLACES : goal.returns-then-p-ge-PLACES
+returns-then-p-ge-PLACES c = λ k h f. absurd (omega arith)
 
 pub bounds-l-at : goal.bounds-l-at
 bounds-l-at c = elim c.if-last-lt-PLACES.branch [
@@ -21,10 +21,9 @@ bounds-l-at c = elim c.if-last-lt-PLACES.branch [
 pub returns : goal.returns
 returns c = λ k g f.
     let a = c.args in
-    let u = c.wide-last.ensures in
     let e : c.if-last-lt-PLACES.at ≡ last_cell (places + a.q) (line_of places a.l.now a.q) =
     elim c.if-last-lt-PLACES.branch [
-      | then-last-lt-PLACES w ↦ let h = w.if-last-lt-PLACES.true in w.at-is ∙ u ∙ hang_some k c.requires (omega arith) (omega arith)
+      | then-last-lt-PLACES w ↦ let h = w.if-last-lt-PLACES.true in w.at-is ∙ hang_some k c.requires (omega arith) (omega arith)
       | else-last-lt-PLACES w ↦ let h = w.if-last-lt-PLACES.false in w.at-is ∙ hang_own k c.requires (omega arith) (omega arith)
     ] in
     rw e (join_turned k c.requires (omega arith) g f)

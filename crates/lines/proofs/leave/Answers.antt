@@ -3,10 +3,6 @@ use Rattle.lists.specs.Without.{without_none}
 use Rattle.lines.specs.Arrays.{turned_not}
 use Rattle.lines.proofs.leave.Goals as goal
 
-pub cut-requires : goal.cut-requires
-cut-requires c =
-    (c.requires.0, c.requires.1, c.seek-at.ensures.hit c.if-at-lt-CELLS.true)
-
-pub returns-else-at-lt-CELLS : goal.returns-else-at-lt-CELLS
-returns-else-at-lt-CELLS c =
-    rw (without_none c.args.p _ (c.seek-at.ensures.miss c.if-at-lt-CELLS.false)) (turned_not c.requires.0)
+pub returns-in_default : goal.returns-in_default
+returns-in_default c =
+    rw (without_none c.args.p _ c.in_default.ensures) (turned_not c.requires.0)

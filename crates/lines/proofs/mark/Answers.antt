@@ -25,7 +25,7 @@ bounds-l-at-in-loop-at c =
 pub returns-then-i-ge-PLACES : goal.returns-then-i-ge-PLACES
 returns-then-i-ge-PLACES c =
     let w = c.loop-at in
-    tells_no λ z. bad_high w.invariant.1 c.requires.0 (omega arith) (omega arith) z c.loop-at-test.true (omega (arith, c.wide-i.ensures))
+    tells_no λ z. bad_high w.invariant.1 c.requires.0 (omega arith) (omega arith) z c.loop-at-test.true c.if-i-ge-PLACES.true
 
 pub bounds-seen-i : goal.bounds-seen-i
 bounds-seen-i c = omega arith
@@ -33,8 +33,7 @@ bounds-seen-i c = omega arith
 pub returns-then-seen-i : goal.returns-then-seen-i
 returns-then-seen-i c =
     let w = c.loop-at in
-    let e = c.wide-i.ensures in
-    tells_no λ z. bad_twice w.invariant.1 c.requires.0 (omega arith) (omega arith) z c.loop-at-test.true (omega arith) (rw e at c.if-seen-i.true)
+    tells_no λ z. bad_twice w.invariant.1 c.requires.0 (omega arith) (omega arith) z c.loop-at-test.true (omega arith) c.if-seen-i.true
 
 pub bounds-seen-i-in-loop-at : goal.bounds-seen-i-in-loop-at
 bounds-seen-i-in-loop-at c = omega arith
@@ -43,22 +42,20 @@ pub loop-at-smaller : goal.loop-at-smaller
 loop-at-smaller c =
     let w = c.loop-at in
     let r = w.invariant.1.room in
-    bare_less w.seen c.wide-i.result (omega arith) (omega arith) c.args.q (λ z. let p = c.requires.0 in omega arith)
+    bare_less w.seen (get_or c.args.l.now w.at 0) (omega arith) (omega arith) c.args.q (λ z. let p = c.requires.0 in omega arith)
 
 pub loop-at-preserved : goal.loop-at-preserved
 loop-at-preserved c =
     let w = c.loop-at in
-    let e = c.wide-i.ensures in
-    let n : get_or w.seen c.wide-i.result 0 ≡ none = omega arith in
-    (w.invariant.0, rw e (scan_step w.invariant.1 c.requires.0 (omega arith) (omega arith) (omega arith) (rw e at n)))
+    let n : get_or w.seen (get_or c.args.l.now w.at 0) 0 ≡ none = omega arith in
+    (w.invariant.0, scan_step w.invariant.1 c.requires.0 (omega arith) (omega arith) (omega arith) n)
 
 pub returns-then-at-lt-PLACES : goal.returns-then-at-lt-PLACES
 returns-then-at-lt-PLACES c =
     let w = c.loop-at in
-    let e = c.wide.ensures in
     tells_eq _ _
-    (λ t. done_place w.invariant.1 c.requires.0 (omega arith) (omega arith) (omega arith) c.if-at-lt-PLACES.true (sym e ∙ t))
-    (λ t z. bad_last w.invariant.1 c.requires.0 (omega arith) (omega arith) z (omega arith) c.if-at-lt-PLACES.true (λ u. t (e ∙ u)))
+    (λ t. done_place w.invariant.1 c.requires.0 (omega arith) (omega arith) (omega arith) c.if-at-lt-PLACES.true t)
+    (λ t z. bad_last w.invariant.1 c.requires.0 (omega arith) (omega arith) z (omega arith) c.if-at-lt-PLACES.true t)
 
 pub returns : goal.returns
 returns c =

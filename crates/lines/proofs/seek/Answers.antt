@@ -20,11 +20,7 @@ bounds-l-at-in-loop-at c =
 pub returns-then-l-at : goal.returns-then-l-at
 returns-then-l-at c =
     let w = c.loop-at in
-    let b = walked_in c.requires.0 c.requires.1 (omega arith) w.invariant in
-    record {
-      hit = λ h. walked_hit c.requires.0 c.requires.1 (omega arith) w.invariant c.loop-at-test.true c.if-l-at.true;
-      miss = λ h. absurd (omega arith);
-    }
+    walked_hit c.requires.0 c.requires.1 (omega arith) w.invariant c.loop-at-test.true c.if-l-at.true
 
 pub bounds-l-at-in-loop-at-2 : goal.bounds-l-at-in-loop-at-2
 bounds-l-at-in-loop-at-2 c =
@@ -35,17 +31,14 @@ bounds-l-at-in-loop-at-2 c =
 pub loop-at-smaller : goal.loop-at-smaller
 loop-at-smaller c =
     let w = c.loop-at in
-    rw c.wide-at.ensures (walked_less c.requires.0 c.requires.1 (omega arith) w.invariant c.loop-at-test.true)
+    walked_less c.requires.0 c.requires.1 (omega arith) w.invariant c.loop-at-test.true
 
 pub loop-at-preserved : goal.loop-at-preserved
 loop-at-preserved c =
     let w = c.loop-at in
-    rw c.wide-at.ensures (walked_on c.requires.0 c.requires.1 (omega arith) w.invariant c.loop-at-test.true c.if-l-at.false)
+    walked_on c.requires.0 c.requires.1 (omega arith) w.invariant c.loop-at-test.true c.if-l-at.false
 
 pub returns : goal.returns
 returns c =
     let w = c.loop-at in
-    record {
-      hit = λ h. absurd (omega arith);
-      miss = λ h. walked_end c.requires.0 c.requires.1 (omega arith) w.invariant (omega arith);
-    }
+    walked_end c.requires.0 c.requires.1 (omega arith) w.invariant (omega arith)
