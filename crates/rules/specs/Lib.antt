@@ -6,3 +6,4 @@ pub mod Consistent
 pub mod Counted
 pub mod Orders
 pub mod Families
+pub mod Known

@@ -1,8 +1,13 @@
 -- The numbers and values that documents 01 and 02 give to each case of an enum; those of a choice are ours (docs/DECISIONS.md).
-use Rattle.std.specs.Prelude.{ℕ}
+use Rattle.std.specs.Prelude.{ℕ, Option, Some, None, cond, eqb}
+use Rattle.lists.specs.Lists.{none}
+use Rattle.rules.specs.declared.Place.{Place}
+use Rattle.rules.specs.declared.Device.{Device}
 use Rattle.rules.specs.declared.Pending.{Pending}
 use Rattle.rules.specs.declared.Event.{Event}
 use Rattle.rules.specs.declared.Event.TheVariants.{Create, Send, Receive, Reply, End, WaitClock, SliceEnd, Tick, WaitDevice, Interrupt}
+use Rattle.rules.specs.declared.Refusal.{Refusal}
+use Rattle.rules.specs.declared.Refusal.TheVariants.{Idle, NoNumber, OwnNumber, NotLive, NotAwaiting, Full}
 use Rattle.rules.specs.declared.Choice.{Choice}
 use Rattle.rules.specs.declared.Choice.TheVariants.{Run, Halt, Wait, Stuck}
 
@@ -64,6 +69,23 @@ set_in SliceEnd = empty_set
 set_in Tick = empty_set
 set_in (WaitDevice i) = empty_set
 set_in (Interrupt s w) = s
+
+-- The codes of the refusals
+abbrev pub refusal_code : Refusal → ℕ
+refusal_code Idle = 1
+refusal_code NoNumber = 2
+refusal_code OwnNumber = 3
+refusal_code NotLive = 4
+refusal_code NotAwaiting = 5
+refusal_code Full = 6
+
+-- The place that a number stands for, if it stands for one
+abbrev pub place_known : ℕ → Option Place
+place_known x = cond (eqb x none) None (Some (record { 0 = x }))
+
+-- The device that an index stands for, if it stands for one
+abbrev pub device_known : ℕ → Option Device
+device_known x = cond (eqb x none) None (Some (record { 0 = x }))
 
 -- A choice as a number, and who runs
 abbrev pub choice_kind : Choice → ℕ

@@ -2,26 +2,26 @@
 #![tactic(auto)]
 
 ghost use Rattle.std.specs.Prelude.{◌≡◌, ◌<◌};
-ghost use Rattle.rules.specs.Values.{kind_of, choice_kind, choice_runs};
+ghost use Rattle.rules.specs.Values.{kind_of, refusal_code, choice_kind, choice_runs};
 ghost use Rattle.rules.specs.Devices.{on_line, of_terminal, index_of};
 
 pub mod codes;
 pub mod kinds;
 
 // A thread's number, 0 to 253. 255 is nobody, or anyone.
-#[derive(Clone, Copy)]
+#[derive(Clone, Copy, PartialEq, Eq)]
 pub struct Number(pub u8);
 
 // A place, 0 to 63. 255 is none. A place is no number: neither can stand where the other is asked for.
-#[derive(Clone, Copy)]
+#[derive(Clone, Copy, PartialEq, Eq)]
 pub struct Place(pub u8);
 
 // A device's index, 0 to 47: a third kind. 255 is none.
-#[derive(Clone, Copy)]
+#[derive(Clone, Copy, PartialEq, Eq)]
 pub struct Device(pub u8);
 
 // A pending set of exactly 48 bits, one for each device, index 0 lowest: those of the indexes 0 to 31, and those of 32 to 47.
-#[derive(Clone, Copy)]
+#[derive(Clone, Copy, PartialEq, Eq)]
 pub struct Pending {
     pub low: u32,
     pub high: u16,
@@ -74,12 +74,44 @@ pub enum Port {
 }
 
 // Who runs next, or why nobody does.
-#[derive(Clone, Copy)]
+#[derive(Clone, Copy, PartialEq, Eq)]
 pub enum Choice {
     Run(Number),
     Halt,
     Wait,
     Stuck,
+}
+
+// Why an event is refused.
+#[derive(Clone, Copy, PartialEq, Eq)]
+pub enum Refusal {
+    // Nobody runs who could call.
+    Idle,
+    // The number is none, or the index no device's.
+    NoNumber,
+    // The number is the caller's own.
+    OwnNumber,
+    NotLive,
+    // The thread awaits no reply of the caller's.
+    NotAwaiting,
+    // No place is empty.
+    Full,
+}
+
+impl Refusal {
+    // Its code in document 01.
+    pub fn code(self) -> u8
+        ensures { result ≡ refusal_code self }
+    {
+        match self {
+            Refusal::Idle => codes::IDLE,
+            Refusal::NoNumber => codes::NO_NUMBER,
+            Refusal::OwnNumber => codes::OWN_NUMBER,
+            Refusal::NotLive => codes::NOT_LIVE,
+            Refusal::NotAwaiting => codes::NOT_AWAITING,
+            Refusal::Full => codes::FULL,
+        }
+    }
 }
 
 impl Event {
@@ -89,18 +121,15 @@ impl Event {
     {
         match self {
             Event::Create => kinds::CREATE,
-            Event::Send { to: _, word: _ } => kinds::SEND,
-            Event::Receive { from: _ } => kinds::RECEIVE,
-            Event::Reply { to: _, word: _ } => kinds::REPLY,
-            Event::End { thread: _ } => kinds::END,
+            Event::Send { .. } => kinds::SEND,
+            Event::Receive { .. } => kinds::RECEIVE,
+            Event::Reply { .. } => kinds::REPLY,
+            Event::End { .. } => kinds::END,
             Event::WaitClock => kinds::WAIT_CLOCK,
             Event::SliceEnd => kinds::SLICE_END,
             Event::Tick => kinds::TICK,
-            Event::WaitDevice { device: _ } => kinds::WAIT_DEVICE,
-            Event::Interrupt {
-                pending: _,
-                status: _,
-            } => kinds::INTERRUPT,
+            Event::WaitDevice { .. } => kinds::WAIT_DEVICE,
+            Event::Interrupt { .. } => kinds::INTERRUPT,
         }
     }
 }
