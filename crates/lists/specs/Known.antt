@@ -1,14 +1,29 @@
 -- What it comes to that a number stands for a place, or for none.
-use Rattle.std.specs.Prelude.{◌≡◌, Option, Some, None, ℕ, eqb}
-use Rattle.std.proofs.Common.{arith}
+use Rattle.std.specs.Prelude.{◌≡◌, Option, Some, None, is_some, true, false, ℕ}
+use Rattle.std.proofs.Common.{sym, ◌∙◌, ap, arith}
 use Rattle.lists.specs.Lists.{none, known}
 
-pub known_none : (x : ℕ) → known x ≡ None → x ≡ none
-known_none x e = grind arith
+none_is : (x : ℕ) → known x ≡ None → x ≡ none
+none_is x e = grind arith
 
-pub known_some : (x : ℕ) {p : ℕ} → known x ≡ Some p → (x ≡ p) × (x ≡ none → ⊥)
-known_some x e = grind arith
+some_is : (x : ℕ) {p : ℕ} → known x ≡ Some p → (x ≡ p) × (x ≡ none → ⊥)
+some_is x e = grind arith
 
--- the same, where it is the place that is asked about
-pub known_place : (x : ℕ) {p : ℕ} → known x ≡ Some p → (p ≡ x) × (p ≡ none → ⊥)
-known_place x e = grind arith
+is_some_is : (x : ℕ) → is_some (known x) ≡ true → x ≡ none → ⊥
+is_some_is x e z = grind arith
+
+is_none_is : (x : ℕ) → is_some (known x) ≡ false → x ≡ none
+is_none_is x e = grind arith
+
+module _ {o : Option ℕ} {x : ℕ} (e : o ≡ known x) where
+  pub known_none : o ≡ None → x ≡ none
+  known_none f = none_is x (sym e ∙ f)
+
+  pub known_some : {p : ℕ} → o ≡ Some p → (x ≡ p) × (x ≡ none → ⊥)
+  known_some f = some_is x (sym e ∙ f)
+
+  pub known_yes : is_some o ≡ true → x ≡ none → ⊥
+  known_yes f = is_some_is x (ap is_some (sym e) ∙ f)
+
+  pub known_no : is_some o ≡ false → x ≡ none
+  known_no f = is_none_is x (ap is_some (sym e) ∙ f)

@@ -1,19 +1,33 @@
 -- What it comes to that a number stands for a place or a device, or for none.
 use Rattle.std.specs.Prelude.{◌≡◌, Option, Some, None, ℕ}
-use Rattle.std.proofs.Common.{arith}
+use Rattle.std.proofs.Common.{sym, ◌∙◌, arith}
 use Rattle.lists.specs.Lists.{none}
 use Rattle.rules.specs.Values.{place_known, device_known}
 use Rattle.rules.specs.declared.Place.{Place}
 use Rattle.rules.specs.declared.Device.{Device}
 
-pub no_place : (x : ℕ) → place_known x ≡ None → x ≡ none
-no_place x e = grind arith
+no_place_is : (x : ℕ) → place_known x ≡ None → x ≡ none
+no_place_is x e = grind arith
 
-pub a_place : (x : ℕ) {p : Place} → place_known x ≡ Some p → (p.0 ≡ x) × (x ≡ none → ⊥)
-a_place x e = grind arith
+place_is : (x : ℕ) {p : Place} → place_known x ≡ Some p → (p.0 ≡ x) × (x ≡ none → ⊥)
+place_is x e = grind arith
 
-pub no_device : (x : ℕ) → device_known x ≡ None → x ≡ none
-no_device x e = grind arith
+no_device_is : (x : ℕ) → device_known x ≡ None → x ≡ none
+no_device_is x e = grind arith
 
-pub a_device : (x : ℕ) {i : Device} → device_known x ≡ Some i → (i.0 ≡ x) × (x ≡ none → ⊥)
-a_device x e = grind arith
+device_is : (x : ℕ) {i : Device} → device_known x ≡ Some i → (i.0 ≡ x) × (x ≡ none → ⊥)
+device_is x e = grind arith
+
+module _ {o : Option Place} {x : ℕ} (e : o ≡ place_known x) where
+  pub no_place : o ≡ None → x ≡ none
+  no_place f = no_place_is x (sym e ∙ f)
+
+  pub a_place : {p : Place} → o ≡ Some p → (p.0 ≡ x) × (x ≡ none → ⊥)
+  a_place f = place_is x (sym e ∙ f)
+
+module _ {o : Option Device} {x : ℕ} (e : o ≡ device_known x) where
+  pub no_device : o ≡ None → x ≡ none
+  no_device f = no_device_is x (sym e ∙ f)
+
+  pub a_device : {i : Device} → o ≡ Some i → (i.0 ≡ x) × (x ≡ none → ⊥)
+  a_device f = device_is x (sym e ∙ f)

@@ -6,6 +6,7 @@ use Rattle.filled.specs.Filled.{word_of}
 use Rattle.rules.specs.Model as Rules
 use Rattle.rules.specs.Model.{places, queue_count, line_count, Empty, Model}
 use Rattle.rules.specs.Consistent.{ConsistentBy}
+use Rattle.table.specs.declared.Arrays.{Arrays}
 use Rattle.table.specs.declared.Desk.{Desk}
 use Rattle.table.specs.declared.Thread.{Thread}
 
@@ -72,6 +73,23 @@ pub record StandsBy (strict : Bool) (d : Desk) (b w l : List ℕ) : Type 0 where
 
 abbrev pub Stands : Desk → List ℕ → List ℕ → List ℕ → Type 0
 Stands d b w l = StandsBy true d b w l
+
+-- The same words of the arrays as they are lent
+abbrev pub shown_in : Desk → Arrays → Model
+shown_in d a = shown d a.table.blocks a.table.words a.lines
+
+abbrev pub WholeIn : Arrays → Type 0
+WholeIn a = Whole a.table.blocks a.table.words a.lines
+
+abbrev pub StandsByIn : Bool → Desk → Arrays → Type 0
+StandsByIn strict d a = StandsBy strict d a.table.blocks a.table.words a.lines
+
+abbrev pub StandsIn : Desk → Arrays → Type 0
+StandsIn d a = StandsByIn true d a
+
+-- The desk with x running
+abbrev pub running : ℕ → Desk → Desk
+running x d = record { filled = d.filled; last = d.last; running = record { 0 = x } }
 
 -- the code's thread, as the rules have it
 abbrev pub as_thread : Thread → Rules.Thread

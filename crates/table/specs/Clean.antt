@@ -15,8 +15,8 @@ pub record Sized (b w : List ℕ) : Type 0 where
 abbrev pub emptied : Thread → Thread
 emptied t = vacant
 
-pub cleaned : {b w b₁ b₂ w₂ b₃ w₃ b₄ : List ℕ} {p : ℕ} → Sized b w → p < places → Named b p nobody b₁ → Stood b₁ w p Empty nobody 0 b₂ w₂ → Told b₂ w₂ p 0 nobody 0 b₃ w₃
-    → Raised b₃ p nobody b₄ → Stored b w p emptied b₄ w₃
+pub cleaned : {b w b₁ w₁ b₂ w₂ b₃ w₃ b₄ w₄ : List ℕ} {p : ℕ} → Sized b w → p < places → Named b w p nobody b₁ w₁ → Stood b₁ w₁ p Empty nobody 0 b₂ w₂ → Told b₂ w₂ p 0 nobody 0 b₃ w₃
+    → Raised b₃ w₃ p nobody b₄ w₄ → Stored b w p emptied b₄ w₄
 cleaned k h n s t r =
     let x = named k.blocks k.words h n in
     let y = stood x.blocks x.words h s in

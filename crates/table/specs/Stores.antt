@@ -23,12 +23,12 @@ abbrev pub Told : List ℕ → List ℕ → ℕ → ℕ → ℕ → ℕ → List
 Told b w p co n x b' w' = (b' ≡ set (set b (cell 3 p) co) (cell 4 p) n) × (w' ≡ set w (cell 1 p) x)
 
 -- a number at p
-abbrev pub Named : List ℕ → ℕ → ℕ → List ℕ → Type 0
-Named b p n b' = b' ≡ set b (cell 0 p) n
+abbrev pub Named : List ℕ → List ℕ → ℕ → ℕ → List ℕ → List ℕ → Type 0
+Named b w p n b' w' = (b' ≡ set b (cell 0 p) n) × (w' ≡ w)
 
 -- a parent at p
-abbrev pub Raised : List ℕ → ℕ → ℕ → List ℕ → Type 0
-Raised b p n b' = b' ≡ set b (cell 5 p) n
+abbrev pub Raised : List ℕ → List ℕ → ℕ → ℕ → List ℕ → List ℕ → Type 0
+Raised b w p n b' w' = (b' ≡ set b (cell 5 p) n) × (w' ≡ w)
 
 -- ---- what it makes of the threads
 
@@ -62,8 +62,8 @@ module _ {b w : List ℕ} (i : length b ≡ byte_rows * places) (j : length w �
       let t = byte s.blocks s.words h 4 n (omega arith) in
       rw (e.0, e.1) (wrote_then s (wrote_then t (word t.blocks t.words h 1 x (omega arith))))
 
-pub named : {b w b' : List ℕ} {p n : ℕ} → length b ≡ byte_rows * places → length w ≡ word_rows * places → p < places → Named b p n b' → Stored b w p (with_byte 0 n) b' w
-named {n = n} i j h e = rw e (byte i j h 0 n (omega arith))
+pub named : {b w b' w' : List ℕ} {p n : ℕ} → length b ≡ byte_rows * places → length w ≡ word_rows * places → p < places → Named b w p n b' w' → Stored b w p (with_byte 0 n) b' w'
+named {n = n} i j h e = rw (e.0, e.1) (byte i j h 0 n (omega arith))
 
-pub raised : {b w b' : List ℕ} {p n : ℕ} → length b ≡ byte_rows * places → length w ≡ word_rows * places → p < places → Raised b p n b' → Stored b w p (with_byte 5 n) b' w
-raised {n = n} i j h e = rw e (byte i j h 5 n (omega arith))
+pub raised : {b w b' w' : List ℕ} {p n : ℕ} → length b ≡ byte_rows * places → length w ≡ word_rows * places → p < places → Raised b w p n b' w' → Stored b w p (with_byte 5 n) b' w'
+raised {n = n} i j h e = rw (e.0, e.1) (byte i j h 5 n (omega arith))

@@ -1,12 +1,13 @@
-// The thread table: what a place holds, in two lent arrays, and the little that an event keeps beside them. A field of all places stands in a row, so
-// that field k of place p is cell k * PLACES + p.
+// The thread table: what a place holds, in two arrays, and the little that an event keeps beside them. A field of all places stands in a row, so that field k of
+// place p is cell k * PLACES + p.
 #![tactic(auto)]
 
 ghost use Rattle.std.specs.Prelude.{◌≡◌, ℕ, ◌<◌, List, [], get_or};
 ghost use Rattle.lines.specs.Lines.{Tidy};
+ghost use Rattle.rules.specs.Values.{place_known};
 ghost use Rattle.rules.specs.Model.{places, line_count, vacant};
 ghost use Rattle.rules.specs.Rules.{hears, waited, choice};
-ghost use Rattle.table.specs.Cells.{cell, thread_of, shown, as_thread};
+ghost use Rattle.table.specs.Cells.{cell, thread_of, shown, as_thread, running};
 ghost use Rattle.table.specs.Choose.{Legible};
 ghost use Rattle.table.specs.Stores.{Stood, Told, Named, Raised, Stored, awaits_of};
 ghost use Rattle.table.specs.Clean.{Sized, emptied, Emptied};
@@ -49,6 +50,20 @@ pub const CLOCK_LINE: u8 = 1;
 pub const DEVICE_LINES: u8 = 2;
 
 pub const INBOX_LINES: u8 = lines::QUEUES as u8;
+
+// The bytes and the words of all threads.
+#[derive(Clone, Copy)]
+pub struct Table {
+    pub blocks: Blocks,
+    pub words: Words,
+}
+
+// What an event is lent and changes in place: the thread table, and the lines.
+#[derive(Clone, Copy)]
+pub struct Arrays {
+    pub table: Table,
+    pub lines: Links,
+}
 
 // The set of filled places, the last number given, and the running place.
 #[derive(Clone, Copy)]
@@ -95,149 +110,168 @@ pub fn vacancy() -> Thread
     }
 }
 
-// What the place p holds.
-pub fn read(b: &Blocks, w: &Words, p: Place) -> Thread
-    requires { p.0 < places }
-    ensures { as_thread result ≡ thread_of b.now w.now p.0 }
-{
-    let at = p.0 as usize;
-    Thread {
-        number: Number(b[NUMBER + at]),
-        standing: b[STANDING + at],
-        partner: Number(b[PARTNER + at]),
-        word: w[WORD + at],
-        answer: Answer {
-            code: b[CODE + at],
-            who: Number(b[WHO + at]),
-            word: w[ANSWER + at],
-        },
-        parent: Number(b[PARENT + at]),
+impl Table {
+    // What the place p holds.
+    pub fn read(&self, p: Place) -> Thread
+        requires { p.0 < places }
+        ensures { as_thread result ≡ thread_of self.now.blocks self.now.words p.0 }
+    {
+        let at = p.0 as usize;
+        Thread {
+            number: Number(self.blocks[NUMBER + at]),
+            standing: self.blocks[STANDING + at],
+            partner: Number(self.blocks[PARTNER + at]),
+            word: self.words[WORD + at],
+            answer: Answer {
+                code: self.blocks[CODE + at],
+                who: Number(self.blocks[WHO + at]),
+                word: self.words[ANSWER + at],
+            },
+            parent: Number(self.blocks[PARENT + at]),
+        }
+    }
+
+    // Does the thread at p receive any or from k?
+    pub fn listens(&self, p: Place, k: Number) -> bool
+        requires { p.0 < places }
+        ensures { result ≡ hears (thread_of self.now.blocks [] p.0) k.0 }
+    {
+        let at = p.0 as usize;
+        if self.blocks[STANDING + at] != rules::RECEIVING {
+            return false;
+        }
+        let partner = self.blocks[PARTNER + at];
+        (partner == rules::NOBODY) | (partner == k.0)
+    }
+
+    // Does the thread at p await a reply of the number k?
+    pub fn awaits(&self, p: Place, k: Number) -> bool
+        requires { p.0 < places }
+        ensures { result ≡ awaits_of self.now.blocks p.0 k.0 }
+    {
+        let at = p.0 as usize;
+        (self.blocks[STANDING + at] == rules::AWAITING) & (self.blocks[PARTNER + at] == k.0)
+    }
+
+    // The fields of the thread at p, one by one.
+    pub fn number_of(&self, p: Place) -> Number
+        requires { p.0 < places }
+        ensures { result.0 ≡ get_or self.now.blocks (cell 0 p.0) 0 }
+    {
+        let at = p.0 as usize;
+        Number(self.blocks[NUMBER + at])
+    }
+
+    pub fn standing_of(&self, p: Place) -> u8
+        requires { p.0 < places }
+        ensures { result ≡ get_or self.now.blocks (cell 1 p.0) 0 }
+    {
+        let at = p.0 as usize;
+        self.blocks[STANDING + at]
+    }
+
+    pub fn partner_of(&self, p: Place) -> Number
+        requires { p.0 < places }
+        ensures { result.0 ≡ get_or self.now.blocks (cell 2 p.0) 0 }
+    {
+        let at = p.0 as usize;
+        Number(self.blocks[PARTNER + at])
+    }
+
+    pub fn parent_of(&self, p: Place) -> Number
+        requires { p.0 < places }
+        ensures { result.0 ≡ get_or self.now.blocks (cell 5 p.0) 0 }
+    {
+        let at = p.0 as usize;
+        Number(self.blocks[PARENT + at])
+    }
+
+    pub fn word_of(&self, p: Place) -> u32
+        requires { p.0 < places }
+        ensures { result ≡ get_or self.now.words (cell 0 p.0) 0 }
+    {
+        let at = p.0 as usize;
+        self.words[WORD + at]
+    }
+
+    // The thread at p stands so from now on.
+    pub fn stand(&mut self, p: Place, standing: u8, partner: Number, word: u32)
+        requires { p.0 < places }
+        ensures { Stood self.old.blocks self.old.words p.0 standing partner.0 word self.new.blocks self.new.words }
+    {
+        let at = p.0 as usize;
+        self.blocks[STANDING + at] = standing;
+        self.blocks[PARTNER + at] = partner.0;
+        self.words[WORD + at] = word;
+    }
+
+    // The answer to the thread at p.
+    pub fn tell(&mut self, p: Place, code: u8, who: Number, word: u32)
+        requires { p.0 < places }
+        ensures { Told self.old.blocks self.old.words p.0 code who.0 word self.new.blocks self.new.words }
+    {
+        let at = p.0 as usize;
+        self.blocks[CODE + at] = code;
+        self.blocks[WHO + at] = who.0;
+        self.words[ANSWER + at] = word;
+    }
+
+    // The number of the thread at p.
+    pub fn name(&mut self, p: Place, n: Number)
+        requires { p.0 < places }
+        ensures { Named self.old.blocks self.old.words p.0 n.0 self.new.blocks self.new.words }
+    {
+        let at = p.0 as usize;
+        self.blocks[NUMBER + at] = n.0;
+    }
+
+    // The parent of the thread at p.
+    pub fn raise(&mut self, p: Place, n: Number)
+        requires { p.0 < places }
+        ensures { Raised self.old.blocks self.old.words p.0 n.0 self.new.blocks self.new.words }
+    {
+        let at = p.0 as usize;
+        self.blocks[PARENT + at] = n.0;
+    }
+
+    // The place p is cleaned.
+    pub fn clean(&mut self, p: Place)
+        requires { Sized self.old.blocks self.old.words × (p.0 < places) }
+        ensures { Stored self.old.blocks self.old.words p.0 emptied self.new.blocks self.new.words }
+    {
+        self.name(p, Number(rules::NOBODY));
+        self.stand(p, rules::EMPTY, Number(rules::NOBODY), 0);
+        self.tell(p, 0, Number(rules::NOBODY), 0);
+        self.raise(p, Number(rules::NOBODY));
+    }
+
+    // Every place is cleaned.
+    pub fn clear(&mut self)
+        requires { Sized self.old.blocks self.old.words }
+        ensures { Emptied self.new.blocks self.new.words places }
+    {
+        for p in 0..lines::PLACES as u8 {
+            self.clean(Place(p));
+        }
     }
 }
 
-// Does the thread at p receive any or from k?
-pub fn listens(b: &Blocks, p: Place, k: Number) -> bool
-    requires { p.0 < places }
-    ensures { result ≡ hears (thread_of b.now [] p.0) k.0 }
-{
-    let at = p.0 as usize;
-    if b[STANDING + at] != rules::RECEIVING {
-        return false;
+impl Desk {
+    // The place of who runs, if anybody does.
+    pub fn runner(self) -> Option<Place>
+        ensures { result ≡ place_known self.running.0 }
+    {
+        if self.running.0 == lines::NONE {
+            return None;
+        }
+        Some(self.running)
     }
-    let partner = b[PARTNER + at];
-    (partner == rules::NOBODY) | (partner == k.0)
-}
 
-// Does the thread at p await a reply of the number k?
-pub fn awaits(b: &Blocks, p: Place, k: Number) -> bool
-    requires { p.0 < places }
-    ensures { result ≡ awaits_of b.now p.0 k.0 }
-{
-    let at = p.0 as usize;
-    (b[STANDING + at] == rules::AWAITING) & (b[PARTNER + at] == k.0)
-}
-
-// The fields of the thread at p, one by one.
-pub fn number_of(b: &Blocks, p: Place) -> Number
-    requires { p.0 < places }
-    ensures { result.0 ≡ get_or b.now (cell 0 p.0) 0 }
-{
-    let at = p.0 as usize;
-    Number(b[NUMBER + at])
-}
-
-pub fn standing_of(b: &Blocks, p: Place) -> u8
-    requires { p.0 < places }
-    ensures { result ≡ get_or b.now (cell 1 p.0) 0 }
-{
-    let at = p.0 as usize;
-    b[STANDING + at]
-}
-
-pub fn partner_of(b: &Blocks, p: Place) -> Number
-    requires { p.0 < places }
-    ensures { result.0 ≡ get_or b.now (cell 2 p.0) 0 }
-{
-    let at = p.0 as usize;
-    Number(b[PARTNER + at])
-}
-
-pub fn parent_of(b: &Blocks, p: Place) -> Number
-    requires { p.0 < places }
-    ensures { result.0 ≡ get_or b.now (cell 5 p.0) 0 }
-{
-    let at = p.0 as usize;
-    Number(b[PARENT + at])
-}
-
-pub fn word_of(w: &Words, p: Place) -> u32
-    requires { p.0 < places }
-    ensures { result ≡ get_or w.now (cell 0 p.0) 0 }
-{
-    let at = p.0 as usize;
-    w[WORD + at]
-}
-
-// The thread at p stands so from now on.
-pub fn stand(b: &mut Blocks, w: &mut Words, p: Place, standing: u8, partner: Number, word: u32)
-    requires { p.0 < places }
-    ensures { Stood b.old w.old p.0 standing partner.0 word b.new w.new }
-{
-    let at = p.0 as usize;
-    b[STANDING + at] = standing;
-    b[PARTNER + at] = partner.0;
-    w[WORD + at] = word;
-}
-
-// The answer to the thread at p.
-pub fn tell(b: &mut Blocks, w: &mut Words, p: Place, code: u8, who: Number, word: u32)
-    requires { p.0 < places }
-    ensures { Told b.old w.old p.0 code who.0 word b.new w.new }
-{
-    let at = p.0 as usize;
-    b[CODE + at] = code;
-    b[WHO + at] = who.0;
-    w[ANSWER + at] = word;
-}
-
-// The number of the thread at p.
-pub fn name(b: &mut Blocks, p: Place, n: Number)
-    requires { p.0 < places }
-    ensures { Named b.old p.0 n.0 b.new }
-{
-    let at = p.0 as usize;
-    b[NUMBER + at] = n.0;
-}
-
-// The parent of the thread at p.
-pub fn raise(b: &mut Blocks, p: Place, n: Number)
-    requires { p.0 < places }
-    ensures { Raised b.old p.0 n.0 b.new }
-{
-    let at = p.0 as usize;
-    b[PARENT + at] = n.0;
-}
-
-// The place p is cleaned.
-pub fn clean(b: &mut Blocks, w: &mut Words, p: Place)
-    requires { Sized b.old w.old × (p.0 < places) }
-    ensures { Stored b.old w.old p.0 emptied b.new w.new }
-{
-    name(b, p, Number(rules::NOBODY));
-    stand(b, w, p, rules::EMPTY, Number(rules::NOBODY), 0);
-    tell(b, w, p, 0, Number(rules::NOBODY), 0);
-    raise(b, p, Number(rules::NOBODY));
-}
-
-// Every place is cleaned.
-pub fn clear(b: &mut Blocks, w: &mut Words)
-    requires { Sized b.old w.old }
-    ensures { Emptied b.new w.new places }
-{
-    let mut p: u8 = 0;
-    while p < lines::PLACES as u8 {
-        clean(b, w, Place(p));
-        p += 1;
+    // The desk with p running.
+    pub fn turned_to(self, p: Place) -> Desk
+        ensures { result ≡ running p.0 self }
+    {
+        Desk { running: p, ..self }
     }
 }
 
@@ -246,29 +280,26 @@ fn waits(l: &Links) -> bool
     requires { Tidy places line_count l.now }
     ensures { (d : Desk) (b w : List ℕ) → result ≡ waited (shown d b w l.now) }
 {
-    let mut q = CLOCK_LINE;
-    while q < INBOX_LINES {
-        if lines::first(l, q) != lines::NONE {
+    for q in CLOCK_LINE..INBOX_LINES {
+        if lines::first(l, q).is_some() {
             return true;
         }
-        q += 1;
     }
     false
 }
 
 // Who runs next, or why nobody does.
-pub fn choose(b: &Blocks, l: &Links, d: Desk) -> Choice
-    requires { Legible d b.now l.now }
-    ensures { (w : List ℕ) → result ≡ choice (shown d b.now w l.now) }
+pub fn choose(a: &Arrays, d: Desk) -> Choice
+    requires { Legible d a.now.table.blocks a.now.lines }
+    ensures { (w : List ℕ) → result ≡ choice (shown d a.now.table.blocks w a.now.lines) }
 {
-    let running = d.running.0;
-    if running != lines::NONE {
-        return Choice::Run(Number(b[NUMBER + running as usize]));
+    if let Some(p) = d.runner() {
+        return Choice::Run(a.table.number_of(p));
     }
     if filled::count(d.filled) == 0 {
         return Choice::Halt;
     }
-    if waits(l) {
+    if waits(&a.lines) {
         return Choice::Wait;
     }
     Choice::Stuck

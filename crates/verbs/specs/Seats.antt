@@ -15,13 +15,13 @@ use Rattle.verbs.specs.Steps.{Steps, changing, then, wrote, twice}
 abbrev pub seated : ℕ → ℕ → ℕ → Model → Model
 seated p n pa m = join ready p (put p (newcomer n pa) m)
 
-module _ {b w l : List ℕ} (k : Whole b w l) {p : ℕ} (h : p < places) {b₁ b₂ : List ℕ} {n pa : ℕ} (e : Named b p n b₁) (f : Raised b₁ p pa b₂) where
-  pub named : Steps b w l b₂ w l (changing p (λ t. with_byte 5 pa (with_byte 0 n t)))
+module _ {b w l : List ℕ} (k : Whole b w l) {p : ℕ} (h : p < places) {b₁ w₁ b₂ w₂ : List ℕ} {n pa : ℕ} (e : Named b w p n b₁ w₁) (f : Raised b₁ w₁ p pa b₂ w₂) where
+  pub named : Steps b w l b₂ w₂ l (changing p (λ t. with_byte 5 pa (with_byte 0 n t)))
   named =
       let s = Stores.named k.blocks k.words h e in
       wrote k h (Stores.wrote_then s (Stores.raised s.blocks s.words h f))
 
-  pub seats : {b₃ w₃ l₃ : List ℕ} → Steps b₂ w l b₃ w₃ l₃ (woken p 0 nobody 0) → Steps b w l b₃ w₃ l₃ (seated p n pa)
+  pub seats : {b₃ w₃ l₃ : List ℕ} → Steps b₂ w₂ l b₃ w₃ l₃ (woken p 0 nobody 0) → Steps b w l b₃ w₃ l₃ (seated p n pa)
   seats t = record {
     whole = t.whole;
     seen = λ y x.

@@ -13,7 +13,7 @@ pub returns : goal.returns
 returns c =
     let e : c.match-known.at ≡ last_cell (places + c.args.q) (line_of places c.args.l.now c.args.q) =
     elim c.match-known.branch [
-      | in-None w ↦ w.at-is ∙ join_own c.requires.0 c.requires.1 (omega arith) (known_none _ (sym c.known.ensures ∙ w.in-None.is))
-      | in-Some w ↦ let z = known_some _ (sym c.known.ensures ∙ w.in-Some.is) in w.at-is ∙ sym z.0 ∙ join_some c.requires.0 c.requires.1 (omega arith) z.1
+      | in-None w ↦ w.at-is ∙ join_own c.requires.0 c.requires.1 (omega arith) (known_none c.known.ensures w.in-None.is)
+      | in-Some w ↦ let z = known_some c.known.ensures w.in-Some.is in w.at-is ∙ sym z.0 ∙ join_some c.requires.0 c.requires.1 (omega arith) z.1
     ] in
     rw e (join_turned c.requires.0 c.requires.1 (omega arith) c.requires.2 c.requires.3)

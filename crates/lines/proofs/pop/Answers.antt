@@ -9,7 +9,7 @@ use Rattle.lines.proofs.pop.Goals as goal
 
 pub cut-requires : goal.cut-requires
 cut-requires c =
-    let z = known_some _ (sym c.known.ensures ∙ c.in_ok-p.was) in
+    let z = known_some c.known.ensures c.in_ok-p.was in
     (c.requires.0, c.requires.1, rw z.0 at (front_behind c.requires.0 c.requires.1 (omega arith) z.1))
 
 pub returns-clause-who : goal.returns-clause-who
@@ -17,7 +17,7 @@ returns-clause-who c = sym c.in_ok-p.was ∙ c.known.ensures ∙ ap known (first
 
 pub returns-clause-line : goal.returns-clause-line
 returns-clause-line c =
-    let z = known_some _ (sym c.known.ensures ∙ c.in_ok-p.was) in
+    let z = known_some c.known.ensures c.in_ok-p.was in
     rw (← z.0, front_without c.requires.0 c.requires.1 (omega arith)) at c.cut.ensures
 
 pub returns-in_err-p-clause-who : goal.returns-in_err-p-clause-who
@@ -25,5 +25,5 @@ returns-in_err-p-clause-who c = c.from_residual.ensures ∙ sym c.in_err-p.was �
 
 pub returns-in_err-p-clause-line : goal.returns-in_err-p-clause-line
 returns-in_err-p-clause-line c =
-    let z = known_none _ (sym c.known.ensures ∙ c.in_err-p.was) in
+    let z = known_none c.known.ensures c.in_err-p.was in
     rw (line_none c.requires.0 c.requires.1 (omega arith) z) (turned_not c.requires.0)

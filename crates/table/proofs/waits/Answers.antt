@@ -1,6 +1,7 @@
 -- `waits` meets its contract. The loop's invariant: nobody stands in the lines passed.
 use native.Mathlib.Omega.{arith}
-use mathlib.Core.Path.{◌∙◌}
+use mathlib.Core.Path.{refl, sym, ◌∙◌}
+use Rattle.lists.specs.Known.{known_yes, known_no}
 use Rattle.table.specs.Choose.{none_more, waits_yes, waits_no}
 use Rattle.table.proofs.waits.Goals as goal
 
@@ -10,12 +11,12 @@ loop-q-init c = record { from = omega arith; upto = omega arith; empty = λ r a 
 pub first-requires : goal.first-requires
 first-requires c = (c.requires, omega arith)
 
-pub returns-then-first : goal.returns-then-first
-returns-then-first c =
-    λ d b w. waits_yes c.requires d b w c.loop-q.q c.loop-q.invariant.from (omega (arith, c.loop-q-test.true)) (λ z. c.if-first.true (c.first.ensures ∙ z))
+pub returns-then-is_some : goal.returns-then-is_some
+returns-then-is_some c =
+    λ d b w. waits_yes c.requires d b w c.loop-q.q c.loop-q.invariant.from (omega (arith, c.loop-q-test.true)) (known_yes c.first.ensures (sym c.is_some.ensures ∙ c.if-is_some.true))
 
 pub loop-q-preserved : goal.loop-q-preserved
-loop-q-preserved c = none_more c.loop-q.invariant (omega (arith, c.loop-q-test.true)) c.first.ensures c.if-first.false
+loop-q-preserved c = none_more c.loop-q.invariant (omega (arith, c.loop-q-test.true)) refl (known_no c.first.ensures (sym c.is_some.ensures ∙ c.if-is_some.false))
 
 pub returns : goal.returns
 returns c =

@@ -1,6 +1,6 @@
 -- `clean` meets its contract: four stores, one after the other.
 use Rattle.table.specs.Clean.{cleaned}
-use Rattle.table.proofs.clean.Goals as goal
+use Rattle.table.proofs.Table.clean.Goals as goal
 
 pub returns : goal.returns
 returns c =

@@ -3,7 +3,7 @@ use mathlib.Core.Path.{◌≡◌}
 use native.Mathlib.Omega.{arith}
 use Rattle.rules.specs.Model.{places}
 use Rattle.table.specs.Clean.{emptied_none, emptied_more}
-use Rattle.table.proofs.clear.Goals as goal
+use Rattle.table.proofs.Table.clear.Goals as goal
 
 pub loop-p-init : goal.loop-p-init
 loop-p-init c = (omega arith, emptied_none c.requires)
