@@ -1,9 +1,10 @@
 -- What the core of an event promises: the rules' code and number, and the model that the rules' act leaves, before the front of ready is started.
-use Rattle.std.specs.Prelude.{◌≡◌, List, Bool, cond, not, ℕ, ◌^◌, ◌<◌, eqb}
+use Rattle.std.specs.Prelude.{◌≡◌, List, Result, Ok, Err, Bool, cond, not, ℕ, ◌^◌, ◌<◌, eqb}
 use Rattle.std.proofs.Common.{sym, ap, ◌∙◌, arith, ne_eqb}
 use Rattle.filled.specs.Filled.{word_of}
 use Rattle.filled.specs.Words.{word_ext}
-use Rattle.rules.specs.Values.{nobody}
+use Rattle.rules.specs.Values.{nobody, refusal_code}
+use Rattle.rules.specs.declared.Refusal.{Refusal}
 use Rattle.rules.specs.Model.{places, Empty, Thread, Model, lives_at}
 use Rattle.rules.specs.Rules.{act, refusal, given}
 use Rattle.rules.specs.Consistent.{Fits}
@@ -11,8 +12,10 @@ use Rattle.rules.specs.declared.Event.{Event}
 use Rattle.order.specs.Lives.{lives_now}
 use Rattle.table.specs.Cells.{shown, Whole, stands_at, StandsBy, Stands}
 use Rattle.table.specs.Rows.{thread_at}
+use Rattle.table.specs.declared.Arrays.{Arrays}
 use Rattle.table.specs.declared.Desk.{Desk}
 use Rattle.verbs.specs.Steps.{Turns}
+use Rattle.events.specs.declared.Done.{Done}
 use Rattle.events.specs.declared.Outcome.{Outcome}
 
 -- what the rules say of m, before the front of ready is started: a refused event leaves it as it is
@@ -35,6 +38,19 @@ pub record Did (d : Desk) (b w l : List ℕ) (e : Event) (r : Outcome) (b' w' l'
 -- an outcome that gives no number
 abbrev pub answered : ℕ → Desk → Outcome
 answered c d = record { code = c; desk = d; number = record { 0 = nobody } }
+
+-- what comes of an event that is done, and gives no number
+abbrev pub done_at : Desk → Done
+done_at d = record { desk = d; number = record { 0 = nobody } }
+
+-- what comes of an event, where a core answers so: a refused one leaves the desk as it is
+abbrev pub outcome_of : Desk → Result Done Refusal → Outcome
+outcome_of d (Ok x) = record { code = 0; desk = x.desk; number = x.number }
+outcome_of d (Err e) = answered (refusal_code e) d
+
+-- what the core of the event e did to the arrays that it was lent
+abbrev pub DidIn : Desk → Arrays → Event → Result Done Refusal → Arrays → Type 0
+DidIn d a e r a' = Did d a.table.blocks a.table.words a.lines e (outcome_of d r) a'.table.blocks a'.table.words a'.lines
 
 -- an event with a word and no pending set, and most events have no word either
 pub word_fits : {x : ℕ} → x < 2 ^ 32 → (x < 2 ^ 32) × (0 < 2 ^ 32) × (0 < 2 ^ 16)

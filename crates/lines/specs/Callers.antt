@@ -1,8 +1,9 @@
 -- What a caller goes on with after join, pop and leave. Assumes nothing.
-use Rattle.std.specs.Prelude.{◌≡◌, refl, List, [], ◌∷◌, false, ℕ, ◌+◌, ◌≤◌, ◌<◌, eqb}
+use Rattle.std.specs.Prelude.{◌≡◌, refl, List, [], ◌∷◌, false, Option, Some, None, ℕ, ◌+◌, ◌≤◌, ◌<◌, eqb}
 use Rattle.std.proofs.Common.{sym, ap, ◌∙◌, eqb-true}
 use Rattle.std.proofs.lemmas.Bool.{eqb-false}
-use Rattle.lists.specs.Lists.{none, among, front, rest}
+use Rattle.lists.specs.Lists.{none, known, among, front, rest}
+use Rattle.lists.specs.Known.{known_none, known_some}
 use Rattle.lists.specs.Laws.{by_test, front_some, front_among, front_none, front_once}
 use Rattle.lines.specs.Lines.{line_of, Loose, Path, Tidy, Turned, Popped}
 use Rattle.lines.specs.Arrays.{once, unique}
@@ -41,6 +42,14 @@ front_place {P} {N} {l} {q} k b small n = go (line_of P l q) (k.linked q b) n
     go (x ∷ xs) d e = d.1
 
 -- ---- after a pop
+-- what was popped, as a number
+module _ {P N : ℕ} {l m : List ℕ} {q : ℕ} {o : Option ℕ} (e : o ≡ known (front (line_of P l q))) (t : Turned P N l m q (rest (line_of P l q))) where
+  pub popped_none : o ≡ None → Popped P N l m q none
+  popped_none f = record { who = sym (known_none e f); turned = t }
+
+  pub popped_some : {p : ℕ} → o ≡ Some p → Popped P N l m q p × (p ≡ none → ⊥)
+  popped_some f = let z = known_some e f in (record { who = sym z.0; turned = t }, λ y. z.1 (z.0 ∙ y))
+
 -- nobody stood there: the array is what it was
 pub record Nobody (P : ℕ) (l m : List ℕ) (q : ℕ) : Type 0 where
   pub empty : line_of P l q ≡ []

@@ -1,6 +1,6 @@
 -- What it comes to that a number stands for a place or a device, or for none.
-use Rattle.std.specs.Prelude.{◌≡◌, Option, Some, None, ℕ}
-use Rattle.std.proofs.Common.{sym, ◌∙◌, arith}
+use Rattle.std.specs.Prelude.{◌≡◌, Option, Some, None, is_some, true, false, ℕ}
+use Rattle.std.proofs.Common.{sym, ap, ◌∙◌, arith}
 use Rattle.lists.specs.Lists.{none}
 use Rattle.rules.specs.Values.{place_known, device_known}
 use Rattle.rules.specs.declared.Place.{Place}
@@ -11,6 +11,16 @@ no_place_is x e = grind arith
 
 place_is : (x : ℕ) {p : Place} → place_known x ≡ Some p → (p.0 ≡ x) × (x ≡ none → ⊥)
 place_is x e = grind arith
+
+some_place_is : (x : ℕ) → is_some (place_known x) ≡ true → x ≡ none → ⊥
+some_place_is x e z = grind arith
+
+none_place_is : (x : ℕ) → is_some (place_known x) ≡ false → x ≡ none
+none_place_is x e = grind arith
+
+-- a number that is not none stands for a place
+pub place_at : {x i : ℕ} → x ≡ i → (i ≡ none → ⊥) → Some (record { 0 = i }) ≡ place_known x
+place_at e n = grind arith
 
 no_device_is : (x : ℕ) → device_known x ≡ None → x ≡ none
 no_device_is x e = grind arith
@@ -24,6 +34,12 @@ module _ {o : Option Place} {x : ℕ} (e : o ≡ place_known x) where
 
   pub a_place : {p : Place} → o ≡ Some p → (p.0 ≡ x) × (x ≡ none → ⊥)
   a_place f = place_is x (sym e ∙ f)
+
+  pub place_yes : is_some o ≡ true → x ≡ none → ⊥
+  place_yes f = some_place_is x (ap is_some (sym e) ∙ f)
+
+  pub place_no : is_some o ≡ false → x ≡ none
+  place_no f = none_place_is x (ap is_some (sym e) ∙ f)
 
 module _ {o : Option Device} {x : ℕ} (e : o ≡ device_known x) where
   pub no_device : o ≡ None → x ≡ none

@@ -1,5 +1,5 @@
 -- The numbers and values that documents 01 and 02 give to each case of an enum; those of a choice are ours (docs/DECISIONS.md).
-use Rattle.std.specs.Prelude.{ℕ, Option, Some, None, cond, eqb}
+use Rattle.std.specs.Prelude.{ℕ, Option, Some, None, Result, Ok, Err, cond, eqb}
 use Rattle.lists.specs.Lists.{none}
 use Rattle.rules.specs.declared.Place.{Place}
 use Rattle.rules.specs.declared.Device.{Device}
@@ -78,6 +78,11 @@ refusal_code OwnNumber = 3
 refusal_code NotLive = 4
 refusal_code NotAwaiting = 5
 refusal_code Full = 6
+
+-- The code that an answer has: 0, or that of a refusal
+abbrev pub code_in : {A : Type 0} → Result A Refusal → ℕ
+code_in (Ok x) = 0
+code_in (Err e) = refusal_code e
 
 -- The place that a number stands for, if it stands for one
 abbrev pub place_known : ℕ → Option Place

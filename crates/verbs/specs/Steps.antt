@@ -7,10 +7,11 @@ use Rattle.lists.specs.Tables.{tab_set}
 use Rattle.lines.specs.Lines.{line_of, Turned}
 use Rattle.rules.specs.Model.{places, line_count, Thread, vacant, Model, thread}
 use Rattle.rules.specs.Rules.{put, stands, told, relined, join, leave}
-use Rattle.table.specs.Cells.{thread_of, model_of, shown, Whole}
+use Rattle.table.specs.Cells.{thread_of, model_of, shown, Whole, running}
 use Rattle.table.specs.Rows.{thread_at, line_at}
 use Rattle.table.specs.Stores.{Stood, Told, Stored}
 use Rattle.table.specs.Stores as Stores
+use Rattle.table.specs.declared.Arrays.{Arrays}
 use Rattle.table.specs.declared.Desk.{Desk}
 
 -- ---- what a verb promises
@@ -26,13 +27,16 @@ pub record Turns (d : Desk) (b w l : List ℕ) (d' : Desk) (b' w' l' : List ℕ)
   pub filled : d'.filled ≡ d.filled
   pub seen : shown d' b' w' l' ≡ f (shown d b w l)
 
+-- the same of the arrays as they are lent
+abbrev pub StepsIn : Arrays → Arrays → (Model → Model) → Type 0
+StepsIn a a' f = Steps a.table.blocks a.table.words a.lines a'.table.blocks a'.table.words a'.lines f
+
+abbrev pub TurnsIn : Desk → Arrays → Desk → Arrays → (Model → Model) → Type 0
+TurnsIn d a d' a' f = Turns d a.table.blocks a.table.words a.lines d' a'.table.blocks a'.table.words a'.lines f
+
 -- the thread at p is another from now on
 abbrev pub changing : ℕ → (Thread → Thread) → Model → Model
 changing p f m = put p (f (thread m p)) m
-
--- the desk with x running
-abbrev pub running : ℕ → Desk → Desk
-running x d = record { filled = d.filled; last = d.last; running = record { 0 = x } }
 
 -- ---- one step after another
 

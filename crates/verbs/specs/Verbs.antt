@@ -8,11 +8,11 @@ use Rattle.lines.specs.Callers.{Nobody, Somebody, pop_none, pop_some}
 use Rattle.rules.specs.Values.{nobody}
 use Rattle.rules.specs.Model.{places, line_count, Running, Ready, ready}
 use Rattle.rules.specs.Rules.{stands, told, join, relined, readied, woken, starts, dispatched}
-use Rattle.table.specs.Cells.{thread_of, model_of, Whole}
+use Rattle.table.specs.Cells.{thread_of, model_of, Whole, running}
 use Rattle.table.specs.Rows.{line_at}
 use Rattle.table.specs.Stores.{Stood}
 use Rattle.table.specs.declared.Desk.{Desk}
-use Rattle.verbs.specs.Steps.{Steps, Turns, changing, running, then, turns, stood, turned, twice}
+use Rattle.verbs.specs.Steps.{Steps, Turns, changing, then, turns, stood, turned, twice}
 
 -- ---- wake
 

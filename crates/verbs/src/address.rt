@@ -1,72 +1,48 @@
 // Whom a number names, and why a caller may not name it.
 ghost use Rattle.std.specs.Prelude.{◌≡◌};
+ghost use Rattle.rules.specs.Values.{place_known};
 ghost use Rattle.verbs.specs.Find.{found};
 ghost use Rattle.verbs.specs.Address.{Seated, Names, Addresses};
 
-use rules::{Number, Place, codes};
-use table::{Blocks, Desk};
+use rules::{LAST_NUMBER, Number, Place, Refusal};
+use table::{Desk, Table};
 
-// The place of the live thread with the number n. NONE where there is none.
-pub fn find(b: &Blocks, n: Number) -> Place
-    ensures { result.0 ≡ found b.now n.0 }
+// The place of the live thread with the number n, if there is one.
+pub fn find(t: &Table, n: Number) -> Option<Place>
+    ensures { result ≡ place_known (found t.now.blocks n.0) }
 {
     for i in 0..lines::PLACES {
-        if b[table::STANDING + i] != rules::EMPTY {
-            if b[table::NUMBER + i] == n.0 {
-                return Place(i as u8);
+        if t.blocks[table::STANDING + i] != rules::EMPTY {
+            if t.blocks[table::NUMBER + i] == n.0 {
+                return Some(Place(i as u8));
             }
         }
     }
-    Place(lines::NONE)
+    None
 }
 
-// Why the caller may not name n: nobody runs, n is no number, or n is the caller's own. DONE where it may.
-fn names(b: &Blocks, d: Desk, n: Number) -> u8
+// Why the caller may not name n, if it may not: nobody runs, n is no number, or n is the caller's own.
+fn names(t: &Table, d: Desk, n: Number) -> Result<(), Refusal>
     requires { Seated d }
-    ensures { Names d b.now n.0 result }
+    ensures { Names d t.now.blocks n.0 result }
 {
-    let p = d.running;
-    if p.0 == lines::NONE {
-        return codes::IDLE;
+    let Some(p) = d.runner() else {
+        return Err(Refusal::Idle);
+    };
+    if n.0 > LAST_NUMBER {
+        return Err(Refusal::NoNumber);
     }
-    let me = table::number_of(b, p);
-    if n.0 > rules::LAST_NUMBER {
-        return codes::NO_NUMBER;
+    if n == t.number_of(p) {
+        return Err(Refusal::OwnNumber);
     }
-    if n.0 == me.0 {
-        return codes::OWN_NUMBER;
-    }
-    codes::DONE
+    Ok(())
 }
 
-// What a caller's naming a thread comes to: where the code is DONE, the place of that live thread, and otherwise the code says why there is none.
-#[derive(Clone, Copy)]
-pub struct Address {
-    pub code: u8,
-    pub at: Place,
-}
-
-// The live thread with the number n, for a caller that names it.
-pub fn whom(b: &Blocks, d: Desk, n: Number) -> Address
+// The place of the live thread with the number n, for a caller that names it, or why it may not.
+pub fn whom(t: &Table, d: Desk, n: Number) -> Result<Place, Refusal>
     requires { Seated d }
-    ensures { Addresses d b.now n.0 result }
+    ensures { Addresses d t.now.blocks n.0 result }
 {
-    let code = names(b, d, n);
-    if code != codes::DONE {
-        return Address {
-            code: code,
-            at: Place(lines::NONE),
-        };
-    }
-    let p = find(b, n);
-    if p.0 == lines::NONE {
-        return Address {
-            code: codes::NOT_LIVE,
-            at: p,
-        };
-    }
-    Address {
-        code: codes::DONE,
-        at: p,
-    }
+    names(t, d, n)?;
+    find(t, n).ok_or(Refusal::NotLive)
 }

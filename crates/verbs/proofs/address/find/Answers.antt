@@ -1,25 +1,25 @@
 -- `find` meets its contract: whom a search from here on finds is whom the whole search finds.
-use mathlib.Core.Path.{refl, sym, ◌∙◌}
+use mathlib.Core.Path.{refl, sym, ap, ◌∙◌}
 use native.Mathlib.Omega.{arith}
+use Rattle.rules.specs.Values.{place_known}
+use Rattle.rules.specs.Known.{place_at}
 use Rattle.verbs.specs.Find.{found_past, found_here, found_dead, found_other}
 use Rattle.verbs.proofs.address.find.Goals as goal
-use Rattle.verbs.proofs.address.find.Goals.{else-b-i-ne-EMPTY, then-b-i-ne-EMPTY+else-b-i}
+use Rattle.verbs.proofs.address.find.Goals.{else-t-i-ne-EMPTY, then-t-i-ne-EMPTY+else-t-i}
 
 pub loop-i-init : goal.loop-i-init
-loop-i-init c = (omega arith, refl)
+loop-i-init c = refl
 
-pub returns-then-b-i : goal.returns-then-b-i
-returns-then-b-i c =
-    sym (c.loop-i.invariant.1 ∙ found_here _ _ _ c.loop-i-test.true c.if-b-i-ne-EMPTY.true c.if-b-i.true)
+pub returns-then-t-i : goal.returns-then-t-i
+returns-then-t-i c =
+    place_at (c.loop-i.invariant ∙ found_here _ _ _ c.loop-i-test.true c.if-t-i-ne-EMPTY.true c.if-t-i.true) (omega (arith, c.loop-i-test.true))
 
 pub loop-i-preserved : goal.loop-i-preserved
-loop-i-preserved c = (
-  omega arith,
-  c.loop-i.invariant.1 ∙ elim c.if-b-i-ne-EMPTY.branch [
-    | then-b-i-ne-EMPTY+else-b-i w ↦ found_other _ _ _ c.loop-i-test.true w.if-b-i-ne-EMPTY.true w.if-b-i.false
-    | else-b-i-ne-EMPTY w ↦ found_dead _ _ _ c.loop-i-test.true (omega (arith, w.if-b-i-ne-EMPTY.false))
-  ],
-)
+loop-i-preserved c =
+    c.loop-i.invariant ∙ elim c.if-t-i-ne-EMPTY.branch [
+      | then-t-i-ne-EMPTY+else-t-i w ↦ found_other _ _ _ c.loop-i-test.true w.if-t-i-ne-EMPTY.true w.if-t-i.false
+      | else-t-i-ne-EMPTY w ↦ found_dead _ _ _ c.loop-i-test.true (omega (arith, w.if-t-i-ne-EMPTY.false))
+    ]
 
 pub returns : goal.returns
-returns c = sym (c.loop-i.invariant.1 ∙ found_past _ _ _ (omega arith))
+returns c = ap place_known (sym (c.loop-i.invariant ∙ found_past _ _ _ (omega arith)))

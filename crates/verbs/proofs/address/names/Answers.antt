@@ -1,20 +1,20 @@
 -- `names` meets its contract: the tests are those of the rules, in their order.
+use mathlib.Core.Path.{sym, ap, ◌∙◌}
+use lib.ListN.{get_or}
+use Prim.Native.Nat.{ℕ}
+use Rattle.std.proofs.Common.{eqb-true}
+use Rattle.std.proofs.lemmas.Bool.{eqb-false}
+use Rattle.rules.specs.Known.{no_place, a_place}
+use Rattle.table.specs.Cells.{cell}
 use Rattle.verbs.specs.Address.{names_1, names_2, names_3, names_0}
 use Rattle.verbs.proofs.address.names.Goals as goal
 
-pub returns-then-p : goal.returns-then-p
-returns-then-p c = names_1 c.args.n.0 c.if-p.true
-
-pub number_of-me-requires : goal.number_of-me-requires
-number_of-me-requires c = c.requires c.if-p.false
-
-pub returns-then-n-gt-LAST_NUMBER : goal.returns-then-n-gt-LAST_NUMBER
-returns-then-n-gt-LAST_NUMBER c = names_2 c.args.n.0 c.if-p.false c.if-n-gt-LAST_NUMBER.true
-
-pub returns-then-n-me : goal.returns-then-n-me
-returns-then-n-me c =
-    names_3 c.args.n.0 c.if-p.false c.if-n-gt-LAST_NUMBER.false c.number_of-me.ensures c.if-n-me.true
+pub returns-then-eq : goal.returns-then-eq
+returns-then-eq c =
+    let z = a_place c.runner.ensures c.in-Some.is in
+    names_3 c.args.n.0 z.1 c.if-n-gt-LAST_NUMBER.false (c.number_of.ensures ∙ ap (λ (p : ℕ). get_or c.args.t.now.blocks (cell 0 p) 0) z.0) (eqb-true _ _ (sym c.eq.ensures ∙ c.if-eq.true))
 
 pub returns : goal.returns
 returns c =
-    names_0 c.args.n.0 c.if-p.false c.if-n-gt-LAST_NUMBER.false c.number_of-me.ensures c.if-n-me.false
+    let z = a_place c.runner.ensures c.in-Some.is in
+    names_0 c.args.n.0 z.1 c.if-n-gt-LAST_NUMBER.false (c.number_of.ensures ∙ ap (λ (p : ℕ). get_or c.args.t.now.blocks (cell 0 p) 0) z.0) (eqb-false _ _ (sym c.eq.ensures ∙ c.if-eq.false))

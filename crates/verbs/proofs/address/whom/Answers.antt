@@ -1,15 +1,11 @@
 -- `whom` meets its contract: the caller may not name the number, or it is not live, or it is found.
-use native.Mathlib.Omega.{arith}
-use Rattle.verbs.specs.Address.{addresses_not, addresses_4, addresses_0}
+use mathlib.Core.Path.{sym, ap, subst, ◌∙◌}
+use Rattle.verbs.specs.Address.{Addresses, handed_on, addresses_not, addresses}
 use Rattle.verbs.proofs.address.whom.Goals as goal
 
-pub returns-then-code-ne-DONE : goal.returns-then-code-ne-DONE
-returns-then-code-ne-DONE c = addresses_not c.args.n.0 c.names-code.ensures _ c.if-code-ne-DONE.true
-
-pub returns-then-p : goal.returns-then-p
-returns-then-p c =
-    addresses_4 c.args.n.0 c.names-code.ensures (omega (arith, c.if-code-ne-DONE.false)) c.find-p.ensures c.if-p.true
+pub returns-in_err-names : goal.returns-in_err-names
+returns-in_err-names c =
+    rw (handed_on c.from_residual.ensures.1) (addresses_not c.args.n.0 c.names.ensures c.in_err-names.was)
 
 pub returns : goal.returns
-returns c =
-    addresses_0 c.args.n.0 c.names-code.ensures (omega (arith, c.if-code-ne-DONE.false)) c.find-p.ensures c.if-p.false
+returns c = rw c.ok_or.ensures.value (addresses c.args.n.0 c.names.ensures c.in_ok-names.was c.find.ensures)
