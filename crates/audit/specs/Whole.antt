@@ -19,7 +19,7 @@ use Rattle.table.specs.Rows.{thread_at, thread_past, line_at, line_past}
 use Rattle.table.specs.declared.Desk.{Desk}
 use Rattle.audit.specs.Tests.{place_test, desk_test, Homes}
 use Rattle.audit.specs.Judge.{judged}
-use Rattle.audit.specs.Passes.{passes, seated}
+use Rattle.audit.specs.Passes.{passes}
 use Rattle.audit.specs.Loops.{Indexed, Twice, indexed, twice_not}
 use Rattle.audit.specs.Rings.{Rises, Ring, ends_above, ring_not}
 
@@ -74,14 +74,8 @@ consists strict d {b} {w} {l} {at} k s e fit =
     s.tests e (λ S low p h. ends_above d.last.0 d.running.0 w l s.index S low (s.ends p h))
 
 module _ {strict : Bool} {d : Desk} {b w l : List ℕ} where
-  pub not_tidy : (Tidy places line_count l → ⊥) → StandsBy strict d b w l → ⊥
-  not_tidy n s = n s.whole.lines
-
   pub not_members : {at : List ℕ} → Lines.Whereabouts places line_count l at → Strangers strict d.running.0 b w at → StandsBy strict d b w l → ⊥
   not_members k n s = n.never d.last.0 l (found d.last.0 d.running.0 b w k) s.consistent
-
-  pub not_seated : desk_test (shown d b w l) ≡ false → StandsBy strict d b w l → ⊥
-  not_seated e s = never (seated (shown d b w l) (old_of strict s.consistent)) e
 
   -- the last test: the filled set. The sizes are those of the types
   pub answer : {at : List ℕ} (f : ℕ) → length b ≡ byte_rows * places → length w ≡ word_rows * places → Lines.Whereabouts places line_count l at → Members strict d.running.0 b w at → desk_test (shown d b w l) ≡ true → ((i : ℕ) → get_or w i 0 < 2 ^ 32)
