@@ -281,7 +281,8 @@ pub fn write(row: Row, b: &Blocks, w: &Words, l: &Links, d: Desk, out: &mut [u8]
     end
 }
 
-// What comes of saving: the code, and the length of the image, 0 where there is none. The code is the documents' number, as callers in C see it.
+// What comes of saving: the code, and the length of the image, 0 where there is none. (They stand beside each other, and in no Result, since the documents
+// promise these two.)
 #[derive(Clone, Copy)]
 pub struct Saved {
     pub code: u8,
