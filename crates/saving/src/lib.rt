@@ -248,12 +248,10 @@ fn put_lengths(out: &mut [u8], at: usize, row: Row, l: &Links) -> usize
     requires { Tidy places line_count l.now × (row.queues ≤ queue_count) × (at + length (lengths_in row l.now) ≤ length out.old) }
     ensures { Wrote out.old at (lengths_in row l.now) out.new result }
 {
-    let mut next = at;
     for q in 0..row.queues {
-        out[next] = measure(l, q);
-        next += 1;
+        out[at + usize::from(q)] = measure(l, q);
     }
-    next
+    at + usize::from(row.queues)
 }
 
 // Writes the head: edition, last number, running place, live count, the lengths of the queues, total length.
