@@ -1,5 +1,5 @@
 -- Locating: what was found is what is promised, the body of the thread stands there, and there is one such answer. Assumes nothing.
-use Rattle.std.specs.Prelude.{◌≡◌, refl, ◌≢◌, List, ◌∷◌, ◌++◌, true, ℕ, suc, ◌+◌, ◌≤◌, ◌<◌, length, take, drop, get_or}
+use Rattle.std.specs.Prelude.{◌≡◌, refl, ◌≢◌, List, ◌∷◌, ◌++◌, true, ℕ, suc, ◌+◌, ◌*◌, ◌≤◌, ◌<◌, Option, None, Some, MatchOption, length, take, drop, get_or}
 use Rattle.std.proofs.Common.{sym, ap, ap₂, subst, ◌∙◌, arith, take_at}
 use Rattle.lists.specs.Lists.{among, Distinct}
 use Rattle.lists.specs.Laws.{is_head, is_right, distinct_fore, fore_one}
@@ -7,7 +7,7 @@ use Rattle.rules.specs.Model.{Empty, Model, thread, lives_at, live}
 use Rattle.order.specs.Sound.{sound, small}
 use Rattle.order.specs.Places.{lives_at_lem}
 use Rattle.nucleus.specs.View.{view}
-use Rattle.saving.specs.Format.{inbox_length_at, body_length, live_places, body_of, bodies}
+use Rattle.saving.specs.Format.{head_length, entry_length, inbox_length_at, body_length, live_places, body_of, bodies}
 use Rattle.saving.proofs.Longest.{live_distinct, body_length_lem}
 use Rattle.saving.specs.declared.format.Row.{Row}
 use Rattle.loading.specs.Positions.{offset, live_in}
@@ -15,8 +15,8 @@ use Rattle.loading.specs.Finds.{live_is, row_is, body, body_in_lem, inbox_length
 use Rattle.loading.specs.Entry.{live_low, split, p_is, n_is, o_is, body_at}
 use Rattle.loading.specs.Loads.{row_at, ImageAs, Loads}
 use Rattle.loading.proofs.Injective.{entry_of, image_one}
-use Rattle.loading.proofs.Accepts.{accepted_of, refuses_of, refuses_not, refuses_one}
-use Rattle.image.specs.Locates.{Spotted, Absent, Locates, spotted, missing, unread, EntryFor}
+use Rattle.loading.proofs.Accepts.{accepted_of, refuses_not, refuses_one}
+use Rattle.image.specs.Locates.{Spotted, Absent, Locates, spotted, missing, unread, NoEntry, FirstEntry}
 use Rattle.loading.specs.declared.Loaded.{Loaded}
 
 -- ---- the three ends
@@ -27,37 +27,41 @@ body_size {row} {m} {s} {i} I h =
     let z = ap (λ (x : ℕ). get_or s (x + inbox_length_at) 0) (o_is I h) ∙ inbox_length I (take i (live_places m)) (get_or (live_places m) i 0) (drop (suc i) (live_places m)) (split I h) in
     omega arith
 
+-- the search among the entries, where the head is h bytes long, tells the first with the number
+pub first_found : (row : Row) (s : List ℕ) (n : ℕ) {h live : ℕ} (r : Option ℕ) → h ≡ head_length row → live ≡ get_or s 3 0
+    → MatchOption r ((k : ℕ) → 0 ≤ k → k < live → get_or s (h + entry_length * k + 1) 0 ≢ n) (λ i. (0 ≤ i) × (i < live) × (get_or s (h + entry_length * i + 1) 0 ≡ n) × ((k : ℕ) → 0 ≤ k → k < i → get_or s (h + entry_length * k + 1) 0 ≢ n))
+    → MatchOption r (NoEntry row s n) (λ i. FirstEntry row s n i)
+first_found row s n None e f g = let w = rw (e, f) at g in λ k l. w k (omega arith) l
+first_found row s n (Some i) e f g = let w = rw (e, f) at g in record { low = w.1; before = λ k l. w.3 k (omega arith) l; here = w.2 }
+
 -- what was loaded is an image in the edition that the bytes name
 module _ {s : List ℕ} {r : Loaded} (L : Loads s r) (z : r.code ≡ 0) {row : Row} (er : row ≡ row_at s) where
   loaded_image : ImageAs row (view r.state) s
   loaded_image = let w = (accepted_of L z).image in subst (λ (x : Row). ImageAs x (view r.state) s) (row_is w.1 ∙ sym er) w.1
 
-module _ {s : List ℕ} {n : ℕ} {r : Loaded} (L : Loads s r) where
-  pub locates_unread : r.code ≢ 0 → Locates s n r.code 0 0
-  locates_unread k = unread (refuses_of L k) refl refl
-
-  module _ (z : r.code ≡ 0) {row : Row} (er : row ≡ row_at s) {i : ℕ} (k : EntryFor row s n i) where
+module _ {s : List ℕ} {r : Loaded} (L : Loads s r) where
+  module _ (z : r.code ≡ 0) {row : Row} (er : row ≡ row_at s) where
     abbrev m : Model
     m = view r.state
 
     I : ImageAs row m s
     I = loaded_image L z er
 
-    pub locates_missing : get_or s 3 0 ≤ i → Locates s n 4 0 0
-    locates_missing h =
+    pub locates_missing : {n : ℕ} → NoEntry row s n → Locates s n 4 0 0
+    locates_missing {n} k =
         let a : Absent s n = record {
           m = m;
           image = (row, I);
           nobody = λ p l e.
               let v = entry_of I p (small m (sound m I.consistent) p (lives_at_lem m p l)) l in
               let g = live_is I in
-              k.before v.0 (omega (arith, v.1)) (n_is I v.1 ∙ ap (λ (q : ℕ). (thread m q).number) (sym (p_is I v.1) ∙ v.2) ∙ e);
+              k v.0 (omega (arith, v.1)) (n_is I v.1 ∙ ap (λ (q : ℕ). (thread m q).number) (sym (p_is I v.1) ∙ v.2) ∙ e);
         } in
         missing a refl refl refl
 
-    pub locates_spotted : i < get_or s 3 0 → {c a l : ℕ} → c ≡ 0 → a ≡ body_at row s i → l ≡ body_length row + get_or s (a + inbox_length_at) 0 → Locates s n c a l
-    locates_spotted h {c} {a} {l} ec ea el =
-        let g : i < live m = let v = live_is I in omega arith in
+    pub locates_spotted : {n i : ℕ} → FirstEntry row s n i → {c a l : ℕ} → c ≡ 0 → a ≡ body_at row s i → l ≡ body_length row + get_or s (a + inbox_length_at) 0 → Locates s n c a l
+    locates_spotted {n} {i} k {c} {a} {l} ec ea el =
+        let g : i < live m = let v = live_is I in let h = k.low in omega arith in
         let f : Spotted s n a l = record {
           row = row;
           m = m;
@@ -66,7 +70,7 @@ module _ {s : List ℕ} {n : ℕ} {r : Loaded} (L : Loads s r) where
           before = take i (live_places m);
           behind = drop (suc i) (live_places m);
           split = split I g;
-          number = sym (n_is I g) ∙ k.here h;
+          number = sym (n_is I g) ∙ k.here;
           starts = ea ∙ o_is I g;
           long = el ∙ ap (λ (x : ℕ). body_length row + get_or s (x + inbox_length_at) 0) ea ∙ body_size I g;
         } in

@@ -14,7 +14,7 @@ pub use saving::{LONGEST, Saved, keep, save};
 pub use updating::update;
 
 // Where a thread's body stands in an image, with code 0. With load's own code where load refuses the image, or 4 where the number is not live in it, there is
-// no body, and offset and length are 0.
+// no body, and offset and length are 0. (The code is a number beside them, and not an enum, since the documents promise these three.)
 #[derive(Clone, Copy)]
 pub struct Part {
     pub code: u8,

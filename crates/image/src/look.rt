@@ -1,8 +1,8 @@
 // Looking up: where in the image the body of a thread stands.
-ghost use Rattle.std.specs.Prelude.{◌≡◌, ◌+◌, ◌<◌, get_or};
+ghost use Rattle.std.specs.Prelude.{◌≡◌, ◌+◌, ◌<◌, MatchOption, get_or};
 ghost use Rattle.saving.specs.Format.{inbox_length_at, body_length};
 ghost use Rattle.loading.specs.Entry.{body_at};
-ghost use Rattle.image.specs.Locates.{Locates, EntryFor};
+ghost use Rattle.image.specs.Locates.{Locates, NoEntry, FirstEntry};
 
 use super::Part;
 use loading::bytes;
@@ -10,21 +10,13 @@ use rules::{Number, codes};
 use saving::format;
 use saving::format::Row;
 
-// The entry of the number n, or the live count where it has none.
-fn find(row: Row, image: &[u8], n: Number) -> usize
-    ensures { EntryFor row image.now n.0 result }
+// The first entry with the number n, if any has it.
+fn find(row: Row, image: &[u8], n: Number) -> Option<usize>
+    ensures { MatchOption result (NoEntry row image.now n.0) (λ i. FirstEntry row image.now n.0 i) }
 {
-    let live = bytes::wide(bytes::at(image, format::LIVE_AT));
+    let live = usize::from(bytes::at(image, format::LIVE_AT));
     let head = format::head_length(row);
-    let mut i = 0;
-    while i < live {
-        let entry = head + format::ENTRY * i;
-        if bytes::at(image, entry + format::NUMBER_AT) == n.0 {
-            return i;
-        }
-        i += 1;
-    }
-    live
+    (0..live).find(|i| bytes::at(image, head + format::ENTRY * *i + format::NUMBER_AT) == n.0)
 }
 
 // The body that entry i names, with its inbox.
@@ -34,7 +26,7 @@ fn body(row: Row, image: &[u8], i: usize) -> Part
 {
     let entry = format::head_length(row) + format::ENTRY * i;
     let from = bytes::two(image, entry + format::OFFSET_AT);
-    let inbox = bytes::wide(bytes::at(image, from + format::INBOX_LENGTH_AT));
+    let inbox = usize::from(bytes::at(image, from + format::INBOX_LENGTH_AT));
     Part {
         code: codes::DONE,
         offset: from,
@@ -56,13 +48,12 @@ pub fn part_of(image: &[u8], n: Number) -> Part
         };
     }
     let row = loading::row_at(image);
-    let i = find(row, image, n);
-    if i >= bytes::wide(bytes::at(image, format::LIVE_AT)) {
-        return Part {
+    match find(row, image, n) {
+        Some(i) => body(row, image, i),
+        None => Part {
             code: codes::NOT_LIVE,
             offset: 0,
             length: 0,
-        };
+        },
     }
-    body(row, image, i)
 }

@@ -1,10 +1,11 @@
 -- Judging a candidate: why bytes are refused, and why they are accepted. Assumes nothing.
-use Rattle.std.specs.Prelude.{◌≡◌, ◌≢◌, List, [], Bool, false, ℕ, ◌+◌, ◌≤◌, ◌<◌, eqb, ltb, length, take, drop, get_or}
-use Rattle.std.proofs.Common.{sym, ap, subst, ◌∙◌, add-one, arith, length-append, take-suc, take_all, take_at, length-take-le, get_or-take, eq-eqb, ne_eqb, eqb-true, lt-ltb, le-ltb, ltb-true, ltb-false}
+use Rattle.std.specs.Prelude.{◌≡◌, refl, ◌≢◌, List, [], Bool, true, false, ℕ, zero, suc, ◌+◌, ◌-◌, ◌≤◌, ◌<◌, eqb, ltb, length, take, drop, get_or}
+use Rattle.std.proofs.Common.{sym, ap, subst, ◌∙◌, arith, take_at, eq-eqb, ne_eqb, eqb-true, lt-ltb, le-ltb, ltb-true, ltb-false}
 use Rattle.std.proofs.lemmas.Bool.{eqb-false}
 use Rattle.lists.specs.Sizes.{queue_count}
 use Rattle.lists.specs.Lists.{none, front}
-use Rattle.lists.specs.Laws.{by_test, front_none}
+use Rattle.std.specs.List.{list_all, range_with_len}
+use Rattle.lists.specs.Laws.{by_test, never, front_none}
 use Rattle.lists.specs.Tells.{Tells}
 use Rattle.lists.specs.Bytes.{two_at}
 use Rattle.lines.specs.Lines.{line_of, Tidy}
@@ -75,33 +76,11 @@ head_image {strict} {m} {s} (row, I) =
 pub old_consists : (strict : Bool) {t : State} → ConsistsBy strict t → ConsistsBy false t
 old_consists strict k = record { whole = k.whole; filled = k.filled; consistent = old_of strict k.consistent }
 
--- ---- two lists of bytes, compared: a, and the first n of c
-
-module _ (a c : List ℕ) (n : ℕ) (room : n ≤ length c) where
-  pub equal_size : (length a ≡ n → ⊥) → take n c ≡ a → ⊥
-  equal_size k e = k (sym (ap length e) ∙ length-take-le n c room)
-
-  module _ (i : ℕ) (h : i < n) where
-    pub equal_not : (get_or a i 0 ≡ get_or c i 0 → ⊥) → take n c ≡ a → ⊥
-    equal_not k e = k (sym (ap (λ (t : List ℕ). get_or t i 0) e) ∙ get_or-take n c i 0 h)
-
-    pub equal_more : n ≤ length a → take i a ≡ take i c → get_or a i 0 ≡ get_or c i 0 → take (i + 1) a ≡ take (i + 1) c
-    equal_more v e z = rw (add-one, take-suc a i 0 (omega arith), take-suc c i 0 (omega arith), e, z)
-
-  pub equal_all : length a ≡ n → take n a ≡ take n c → take n c ≡ a
-  equal_all v e = sym e ∙ take_all n a (omega arith)
-
 -- ---- what was written again
 
 module _ {row : Row} {m : Model} {s t : List ℕ} {r : ℕ} (W : Written row m s t r) where
   pub written_take : take r t ≡ encode_as row m
   written_take = rw W.bytes (take_at (encode_as row m) (drop r s) r (sym W.size))
-
-  pub written_room : r ≤ length t
-  written_room =
-      let z = W.size in
-      let v = length-append (encode_as row m) (drop r s) in
-      rw W.bytes (omega arith)
 
   pub written_tells : {b : Bool} {i : List ℕ} → Tells b (take r t ≡ i) (take r t ≡ i → ⊥) → Tells b (encode_as row m ≡ i) (encode_as row m ≡ i → ⊥)
   written_tells k = record { yes = λ e. sym written_take ∙ k.yes e; no = λ e z. k.no e (written_take ∙ z) }
@@ -112,14 +91,28 @@ module _ {row : Row} {m : Model} {s t : List ℕ} {r : ℕ} (W : Written row m s
 abbrev pub Bare : List ℕ → ℕ → ℕ → Type 0
 Bare l k n = (q : ℕ) → k ≤ q → q < n → line_of places l q ≡ []
 
-pub bare_more : {l : List ℕ} (k n : ℕ) {p : ℕ} → Tidy places line_count l → n < line_count → Bare l k n → p ≡ front (line_of places l n) → p ≡ none → Bare l k (n + 1)
-bare_more {l} k n t h f e z q i j =
-    by_test (eqb q n)
-    (λ u. let y = eqb-true q n u in rw y (front_none (line_of places l n) (no_place t (omega arith) none n (omega arith) (omega arith)) (sym e ∙ z)))
-    (λ u. let y = eqb-false q n u in f q i (omega (arith, y)))
+-- the test of one
+abbrev pub is_bare : List ℕ → ℕ → Bool
+is_bare l q = eqb (front (line_of places l q)) none
 
-pub bare_not : (l : List ℕ) {k i n p : ℕ} → k ≤ i → i < n → p ≡ front (line_of places l i) → (p ≡ none → ⊥) → Bare l k n → ⊥
-bare_not l {i = i} g h e z f = z (e ∙ ap front (f i g h))
+bare_from : {l : List ℕ} → Tidy places line_count l → (k n : ℕ) → k + n ≤ line_count → list_all (is_bare l) (range_with_len k n) ≡ true → Bare l k (k + n)
+bare_from t k zero h e q i j = absurd (omega arith)
+bare_from {l} t k (suc n) h e q i j =
+    by_test (is_bare l k)
+    (λ u. by_test (eqb q k)
+    (λ v. rw (eqb-true q k v) (front_none (line_of places l k) (no_place t (omega arith) none k (omega arith) (omega arith)) (eqb-true (front (line_of places l k)) none u)))
+    (λ v. bare_from t (k + 1) n (omega arith) (rw u at e) q (omega (arith, eqb-false q k v)) (omega arith)))
+    (λ u. never (rw u at e) refl)
+
+bare_back : (l : List ℕ) (k n : ℕ) → Bare l k (k + n) → list_all (is_bare l) (range_with_len k n) ≡ true
+bare_back l k zero f = refl
+bare_back l k (suc n) f = rw (f k (omega arith) (omega arith), bare_back l (k + 1) n (λ q i j. f q (omega arith) (omega arith)))
+
+pub bare_tells : {l : List ℕ} → Tidy places line_count l → (k : ℕ) {b : Bool} → b ≡ list_all (is_bare l) (range_with_len k (queue_count - k)) → Tells b (Bare l k queue_count) (Bare l k queue_count → ⊥)
+bare_tells {l} t k e = record {
+  yes = λ z q i j. bare_from t k (queue_count - k) (omega arith) (sym e ∙ z) q i (omega arith);
+  no = λ z f. never (e ∙ bare_back l k (queue_count - k) (λ q i j. f q i (omega arith))) z;
+}
 
 -- and so a model that the row holds
 module _ (row : Row) (s : State) where

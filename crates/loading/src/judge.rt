@@ -1,6 +1,6 @@
 // Judging: the head is looked at first, in the document's order. Then a candidate is read, tested whether it is consistent and one that the edition can hold,
 // and written again in that edition: the bytes are accepted where that gives them back. So the format is not told a second time.
-ghost use Rattle.std.specs.Prelude.{◌≡◌, false, ◌≤◌, length, take};
+ghost use Rattle.std.specs.Prelude.{◌≡◌, ◌≢◌, false, ◌≤◌, MatchResult};
 ghost use Rattle.lists.specs.Tells.{Tells};
 ghost use Rattle.nucleus.specs.View.{view, ConsistsBy};
 ghost use Rattle.lists.specs.Sizes.{places, queue_count, line_count};
@@ -23,24 +23,24 @@ pub fn row_at(image: &[u8]) -> Row
     format::row_of(bytes::at(image, format::EDITION_AT))
 }
 
-// The code that the head alone calls for, 0 where it calls for none.
-pub fn head_code(image: &[u8]) -> u8
-    ensures { result ≡ head_code image.now }
+// The row of the edition, where the head is in order; else the document's code for what is wrong with it, a number since `Loaded` hands it on.
+pub fn head(image: &[u8]) -> Result<Row, u8>
+    ensures { MatchResult result (λ row. (row ≡ row_at image.now) × (head_code image.now ≡ 0)) (λ code. (code ≡ head_code image.now) × (code ≢ 0)) }
 {
     if image.len() < format::SHORTEST_HEAD {
-        return codes::WRONG_LENGTH;
+        return Err(codes::WRONG_LENGTH);
     }
     let row = row_at(image);
     if row.queues == 0 {
-        return codes::UNKNOWN_EDITION;
+        return Err(codes::UNKNOWN_EDITION);
     }
     if image.len() < format::head_length(row) {
-        return codes::WRONG_LENGTH;
+        return Err(codes::WRONG_LENGTH);
     }
     if bytes::two(image, format::total_at(row)) != image.len() {
-        return codes::WRONG_LENGTH;
+        return Err(codes::WRONG_LENGTH);
     }
-    codes::DONE
+    Ok(row)
 }
 
 // A refusal, which gives the fresh state.
@@ -54,24 +54,6 @@ pub fn refuse(code: u8) -> Loaded
     }
 }
 
-// Are the first n bytes of `out` the image?
-fn equal(image: &[u8], out: &[u8], n: usize) -> bool
-    requires { n ≤ length out.now }
-    ensures { Tells result (take n out.now ≡ image.now) (take n out.now ≡ image.now → ⊥) }
-{
-    if image.len() != n {
-        return false;
-    }
-    let mut i = 0;
-    while i < n {
-        if image[i] != out[i] {
-            return false;
-        }
-        i += 1;
-    }
-    true
-}
-
 // Are the bytes the image of the state s, consistent by the old rules at least, in the edition of the row?
 fn same(row: Row, image: &[u8], s: State) -> bool
     requires { (row.queues ≤ queue_count) × ConsistsBy false s }
@@ -83,7 +65,7 @@ fn same(row: Row, image: &[u8], s: State) -> bool
     let l = s.lines;
     let mut out = [0u8; saving::LONGEST];
     let n = saving::write(row, &b, &w, &l, d, &mut out);
-    equal(image, &out, n)
+    image == &out[..n]
 }
 
 // Is every queue empty that the row has not?
@@ -91,14 +73,7 @@ fn holds(row: Row, l: &Links) -> bool
     requires { Tidy places line_count l.now }
     ensures { Tells result (Bare l.now row.queues queue_count) (Bare l.now row.queues queue_count → ⊥) }
 {
-    let mut q = row.queues;
-    while q < lines::QUEUES as u8 {
-        if lines::first(l, q) != lines::NONE {
-            return false;
-        }
-        q += 1;
-    }
-    true
+    (row.queues..lines::QUEUES as u8).all(|q| lines::first(l, q) == lines::NONE)
 }
 
 // Is the state consistent? By the rules as they are, or (strict is false) by the old ones.
@@ -112,12 +87,11 @@ fn consists(strict: bool, s: State) -> bool
     audit::consistent_by(strict, &b, &w, &l, d)
 }
 
-// Bytes whose head is in order.
-pub fn judge(strict: bool, image: &[u8]) -> Loaded
-    requires { head_code image.now ≡ 0 }
+// Bytes whose head is in order, of the edition with the row.
+pub fn judge(strict: bool, row: Row, image: &[u8]) -> Loaded
+    requires { (row ≡ row_at image.now) × (head_code image.now ≡ 0) }
     ensures { JudgedBy strict image.now result }
 {
-    let row = row_at(image);
     let s = read::candidate(row, image);
     if !consists(strict, s) {
         return refuse(codes::FOREIGN);

@@ -4,7 +4,6 @@
 ghost use Rattle.loading.specs.Loads.{LoadsBy, Loads, LoadsOld};
 
 use nucleus::State;
-use rules::codes;
 
 pub mod bytes;
 mod judge;
@@ -23,11 +22,10 @@ pub struct Loaded {
 fn load_by(strict: bool, image: &[u8]) -> Loaded
     ensures { LoadsBy strict image.now result }
 {
-    let code = judge::head_code(image);
-    if code != codes::DONE {
-        return judge::refuse(code);
+    match judge::head(image) {
+        Ok(row) => judge::judge(strict, row, image),
+        Err(code) => judge::refuse(code),
     }
-    judge::judge(strict, image)
 }
 
 // The state of which the bytes are the image. Any bytes may come.

@@ -23,10 +23,8 @@ fn enqueue(image: &[u8], from: usize, count: usize, q: u8, l: &mut Links)
     requires { (q < line_count) × (from + count < 2 ^ 32) }
     ensures { Joined image.now from count q count l.old l.new }
 {
-    let mut i = 0;
-    while i < count {
+    for i in 0..count {
         lines::hang(l, q, bytes::at(image, from + i));
-        i += 1;
     }
 }
 
@@ -69,7 +67,7 @@ fn enter(row: Row, image: &[u8], i: usize, b: &mut Blocks, w: &mut Words, l: &mu
     let o = bytes::two(image, entry + format::OFFSET_AT);
     let n = Number(bytes::at(image, entry + format::NUMBER_AT));
     seat(row, image, o, Place(p), n, b, w);
-    let count = bytes::wide(bytes::at(image, o + format::INBOX_LENGTH_AT));
+    let count = usize::from(bytes::at(image, o + format::INBOX_LENGTH_AT));
     enqueue(
         image,
         o + format::body_length(row),
@@ -84,10 +82,8 @@ fn entries(row: Row, image: &[u8], n: usize, b: &mut Blocks, w: &mut Words, l: &
     requires { (n < 256) × (row.places ≤ places) × Sized b.old w.old }
     ensures { Entered row image.now 0 n b.old w.old l.old b.new w.new l.new }
 {
-    let mut i = 0;
-    while i < n {
+    for i in 0..n {
         enter(row, image, i, b, w, l);
-        i += 1;
     }
 }
 
@@ -96,14 +92,12 @@ fn queues(row: Row, image: &[u8], l: &mut Links)
     requires { row.queues ≤ queue_count }
     ensures { QueuesRead row image.now l.old l.new }
 {
-    let live = bytes::wide(bytes::at(image, format::LIVE_AT));
+    let live = usize::from(bytes::at(image, format::LIVE_AT));
     let mut from = format::head_length(row) + format::ENTRY * live;
-    let mut q: u8 = 0;
-    while q < row.queues {
-        let count = bytes::wide(bytes::at(image, format::LENGTHS_AT + bytes::wide(q)));
+    for q in 0..row.queues {
+        let count = usize::from(bytes::at(image, format::LENGTHS_AT + usize::from(q)));
         enqueue(image, from, count, q, l);
         from += count;
-        q += 1;
     }
 }
 
@@ -118,7 +112,7 @@ pub fn candidate(row: Row, image: &[u8]) -> State
     table::clear(&mut b, &mut w);
     let mut l = lines::fresh();
     queues(row, image, &mut l);
-    let n = bytes::wide(bytes::at(image, format::LIVE_AT));
+    let n = usize::from(bytes::at(image, format::LIVE_AT));
     entries(row, image, n, &mut b, &mut w, &mut l);
     let filled = audit::filling(&b);
     let last = bytes::at(image, format::LAST_AT);

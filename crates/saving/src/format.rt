@@ -81,7 +81,8 @@ pub const INBOX_LENGTH_AT: usize = 12;
 
 pub const PARENT_AT: usize = 13;
 
-// The row of an edition, with no queues, no parents and no places where it is not known.
+// The row of an edition, with no queues, no parents and no places where it is not known. (No Option, since `row_of` of specs/Format.antt has a row for each
+// number.)
 pub fn row_of(edition: u8) -> Row
     ensures { result ≡ row_of edition }
 {

@@ -31,31 +31,14 @@ pub const LONGEST: usize = LENGTHS_AT
     + TOTAL
     + (ENTRY + BODY + PARENT + 1) * lines::PLACES;
 
-// The low byte of a number.
-fn low(x: u32) -> u8
-    ensures { result ≡ x % 256 }
-{
-    (x % 256) as u8
-}
-
-// A byte as a number.
-fn wide(x: u8) -> u32
-    ensures { result ≡ x }
-{
-    x as u32
-}
-
 // Writes bytes at a position, and gives the position behind.
 fn put(out: &mut [u8], at: usize, bytes: &[u8]) -> usize
     requires { at + length bytes.now ≤ length out.old }
     ensures { Wrote out.old at bytes.now out.new result }
 {
-    let mut i = 0;
-    while i < bytes.len() {
-        out[at + i] = bytes[i];
-        i += 1;
-    }
-    at + i
+    let end = at + bytes.len();
+    out[at..end].copy_from_slice(bytes);
+    end
 }
 
 // How long line q is.
@@ -88,23 +71,19 @@ fn put_line(out: &mut [u8], at: usize, l: &Links, q: u8) -> usize
 }
 
 // Two bytes and a word: a thread's standing, partner and word are written so, and its answer.
-fn six(a: u8, b: u8, w: u32) -> [u8; 6]
-    ensures { result ≡ a ∷ b ∷ word_bytes w }
+fn six(first: u8, second: u8, word: u32) -> [u8; 6]
+    ensures { result ≡ first ∷ second ∷ word_bytes word }
 {
-    let c = low(w);
-    let d = low(w / 256);
-    let e = low(w / 65536);
-    let f = low(w / 16777216);
-    [a, b, c, d, e, f]
+    let [a, b, c, d] = word.to_le_bytes();
+    [first, second, a, b, c, d]
 }
 
 // An entry of the contents: place, number, and the offset of the body.
-fn entry(p: Place, n: Number, offset: u32) -> [u8; 4]
+fn entry(p: Place, n: Number, offset: u16) -> [u8; ENTRY]
     ensures { result ≡ p.0 ∷ n.0 ∷ two_bytes offset }
 {
-    let a = low(offset);
-    let b = low(offset / 256);
-    [p.0, n.0, a, b]
+    let [low, high] = offset.to_le_bytes();
+    [p.0, n.0, low, high]
 }
 
 // Writes a thread without its parent and its inbox.
@@ -166,7 +145,7 @@ fn put_body(
 #[derive(Clone, Copy)]
 struct Cursor {
     at: usize,
-    body: u32,
+    body: u16,
 }
 
 // Writes the entry of the place p, if a thread lives there.
@@ -191,11 +170,13 @@ fn put_entry(
     let n = measure(l, table::INBOX_LINES + p.0);
     Cursor {
         at: next,
-        body: c.body + format::body_length(row) as u32 + wide(n),
+        body: c.body + format::body_length(row) as u16 + u16::from(n),
     }
 }
 
 // Writes the contents at a position, for a first body at `first`.
+// This loop and those below differ in their bodies, of a line or two each: one function with a closure would ask each caller for the contract of its closure,
+// which is longer than the loop.
 fn put_contents(
     out: &mut [u8],
     at: usize,
@@ -203,19 +184,14 @@ fn put_contents(
     b: &Blocks,
     w: &Words,
     l: &Links,
-    first: u32,
+    first: u16,
 ) -> usize
     requires { PutsContents row b.now w.now l.now out.old at first }
     ensures { Wrote out.old at (contents_in row b.now w.now l.now first) out.new result }
 {
-    let mut c = Cursor {
-        at: at,
-        body: first,
-    };
-    let mut p: u8 = 0;
-    while p < lines::PLACES as u8 {
+    let mut c = Cursor { at, body: first };
+    for p in 0..lines::PLACES as u8 {
         c = put_entry(out, c, row, b, w, l, Place(p));
-        p += 1;
     }
     c.at
 }
@@ -226,10 +202,8 @@ fn put_bodies(out: &mut [u8], at: usize, row: Row, b: &Blocks, w: &Words, l: &Li
     ensures { Wrote out.old at (bodies_in row b.now w.now l.now) out.new result }
 {
     let mut next = at;
-    let mut p: u8 = 0;
-    while p < lines::PLACES as u8 {
+    for p in 0..lines::PLACES as u8 {
         next = put_body(out, next, row, b, w, l, Place(p));
-        p += 1;
     }
     next
 }
@@ -240,16 +214,14 @@ fn put_queues(out: &mut [u8], at: usize, row: Row, l: &Links) -> usize
     ensures { Wrote out.old at (waiting_in row l.now) out.new result }
 {
     let mut next = at;
-    let mut q: u8 = 0;
-    while q < row.queues {
+    for q in 0..row.queues {
         next = put_line(out, next, l, q);
-        q += 1;
     }
     next
 }
 
 // Writes all behind the head: contents, queues, bodies.
-fn put_tail(out: &mut [u8], row: Row, b: &Blocks, w: &Words, l: &Links, first: u32) -> usize
+fn put_tail(out: &mut [u8], row: Row, b: &Blocks, w: &Words, l: &Links, first: u16) -> usize
     requires { PutsTail row b.now w.now l.now out.old first }
     ensures { Wrote out.old (head_length row) (tail_in row b.now w.now l.now) out.new result }
 {
@@ -260,15 +232,13 @@ fn put_tail(out: &mut [u8], row: Row, b: &Blocks, w: &Words, l: &Links, first: u
 }
 
 // Where the first body starts: behind the head, an entry for each that lives, and all that wait in a row's queues.
-fn first_body(row: Row, l: &Links, live: u8) -> u32
+fn first_body(row: Row, l: &Links, live: u8) -> u16
     requires { Tidy places line_count l.now × (row.queues ≤ queue_count) }
     ensures { result ≡ head_length row + entry_length * live + length (waiting_in row l.now) }
 {
-    let mut n = format::head_length(row) as u32 + ENTRY as u32 * wide(live);
-    let mut q: u8 = 0;
-    while q < row.queues {
-        n += wide(measure(l, q));
-        q += 1;
+    let mut n = format::head_length(row) as u16 + ENTRY as u16 * u16::from(live);
+    for q in 0..row.queues {
+        n += u16::from(measure(l, q));
     }
     n
 }
@@ -278,40 +248,21 @@ fn put_lengths(out: &mut [u8], at: usize, row: Row, l: &Links) -> usize
     requires { Tidy places line_count l.now × (row.queues ≤ queue_count) × (at + length (lengths_in row l.now) ≤ length out.old) }
     ensures { Wrote out.old at (lengths_in row l.now) out.new result }
 {
-    let mut next = at;
-    let mut q: u8 = 0;
-    while q < row.queues {
-        out[next] = measure(l, q);
-        next += 1;
-        q += 1;
+    for q in 0..row.queues {
+        out[at + usize::from(q)] = measure(l, q);
     }
-    next
-}
-
-// The head begins with four bytes, and ends with the total.
-fn start(row: Row, d: Desk, live: u8) -> [u8; LENGTHS_AT]
-    ensures { result ≡ row.edition ∷ d.last.0 ∷ d.running.0 ∷ live ∷ [] }
-{
-    [row.edition, d.last.0, d.running.0, live]
-}
-
-fn two(x: u32) -> [u8; TOTAL]
-    ensures { result ≡ two_bytes x }
-{
-    let a = low(x);
-    let b = low(x / 256);
-    [a, b]
+    at + usize::from(row.queues)
 }
 
 // Writes the head: edition, last number, running place, live count, the lengths of the queues, total length.
-fn put_head(out: &mut [u8], row: Row, l: &Links, d: Desk, live: u8, total: u32) -> usize
+fn put_head(out: &mut [u8], row: Row, l: &Links, d: Desk, live: u8, total: u16) -> usize
     requires { Tidy places line_count l.now × (row.queues ≤ queue_count) × (head_length row ≤ length out.old) }
     ensures { Wrote out.old 0 (head_of row d.last.0 d.running.0 live (lengths_in row l.now) total) out.new result }
 {
-    let first = start(row, d, live);
-    let last = two(total);
+    let first = [row.edition, d.last.0, d.running.0, live];
     let at = put(out, 0, &first);
     let next = put_lengths(out, at, row, l);
+    let last = total.to_le_bytes();
     put(out, next, &last)
 }
 
@@ -324,11 +275,12 @@ pub fn write(row: Row, b: &Blocks, w: &Words, l: &Links, d: Desk, out: &mut [u8]
     let live = filled::count(d.filled);
     let first = first_body(row, l, live);
     let end = put_tail(out, row, b, w, l, first);
-    put_head(out, row, l, d, live, end as u32);
+    put_head(out, row, l, d, live, end as u16);
     end
 }
 
-// What comes of saving: the code, and the length of the image, 0 where there is none.
+// What comes of saving: the code, and the length of the image, 0 where there is none. (They stand beside each other, and in no Result, since the documents
+// promise these two.)
 #[derive(Clone, Copy)]
 pub struct Saved {
     pub code: u8,

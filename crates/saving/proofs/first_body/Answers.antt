@@ -10,15 +10,7 @@ use Rattle.saving.proofs.first_body.Goals as goal
 pub loop-q-init : goal.loop-q-init
 loop-q-init c =
     let z = waiting_start (line_of places c.args.l.now) c.args.row in
-    (omega arith, omega arith, omega arith)
-
-pub overflow_add-n-in-loop-q : goal.overflow_add-n-in-loop-q
-overflow_add-n-in-loop-q c =
-    let f = c.requires in
-    let h : c.loop-q.q < line_count = omega arith in
-    let s = line_short f.0 (omega arith) h in
-    let i = c.loop-q.invariant.1 in
-    omega arith
+    (omega arith, omega arith)
 
 pub loop-q-preserved : goal.loop-q-preserved
 loop-q-preserved c =
@@ -26,7 +18,7 @@ loop-q-preserved c =
     let z = waiting_step (line_of places c.args.l.now) c.args.row c.loop-q.q c.loop-q-test.true in
     let h : c.loop-q.q < line_count = omega arith in
     let s = line_short f.0 (omega arith) h in
-    (omega arith, omega arith, omega arith)
+    (omega arith, omega arith)
 
 pub returns : goal.returns
 returns c =

@@ -1,5 +1,5 @@
 -- `first_body` meets its contract. The loop's invariant: what was counted and who waits in the queues that are left is the whole.
-use Prim.Native.Nat.{◌≤◌, ◌+◌, ◌*◌, ◌-◌}
+use Prim.Native.Nat.{◌≤◌, ◌+◌, ◌*◌}
 use mathlib.Core.Path.{◌≡◌}
 use lib.ListN.{length}
 use Rattle.lists.specs.Sizes.{places}
@@ -10,7 +10,4 @@ use Rattle.saving.specs.Written.{waiting_in}
 use Rattle.saving.proofs.first_body.Given as goal
 
 abbrev pub invariant-loop-q : goal.invariant-loop-q
-invariant-loop-q l = (l.initial.n + length (waiting_in l.row l.l) ≡ l.n + length (joined (line_of places l.l) (queues_from l.row l.q))) × (l.n ≤ l.initial.n + places * l.q) × (l.q ≤ l.row.queues)
-
-abbrev pub decreases-loop-q : goal.decreases-loop-q
-decreases-loop-q l = l.row.queues - l.q
+invariant-loop-q l = (l.initial.n + length (waiting_in l.fn.row l.l) ≡ l.n + length (joined (line_of places l.l) (queues_from l.fn.row l.q))) × (l.n ≤ l.initial.n + places * l.q)

@@ -1,22 +1,18 @@
 -- `put_bodies` meets its contract. The loop's invariant: the bodies of the places that are left are left to write.
-use borrow.Author.Rules.{rules}
 use Rattle.saving.specs.Parts.{held}
-use Rattle.saving.specs.Places.{bodies_start, bodies_room, bodies_more, bodies_length_is, bodies_end}
+use Rattle.saving.specs.Places.{bodies_start, bodies_room, bodies_more, bodies_end}
 use Rattle.saving.proofs.put_bodies.Goals as goal
 
 pub loop-p-init : goal.loop-p-init
-loop-p-init c = let a = c.args in (bodies_start a.row (held a.b.now a.w.now a.l.now) a.out.now a.at c.requires.1, search rules)
+loop-p-init c = let a = c.args in bodies_start a.row (held a.b.now a.w.now a.l.now) a.out.now a.at c.requires.1
 
 pub put_body-next-requires : goal.put_body-next-requires
 put_body-next-requires c =
-    (c.requires.0, c.loop-p-test.true, bodies_room c.loop-p.invariant.0 c.loop-p-test.true)
+    (c.requires.0, c.loop-p-test.true, bodies_room c.loop-p.invariant c.loop-p-test.true)
 
 pub loop-p-preserved : goal.loop-p-preserved
 loop-p-preserved c =
-    (bodies_more c.loop-p.invariant.0 c.loop-p-test.true c.put_body-next.ensures, search rules)
-
-pub shape_of-out : goal.shape_of-out
-shape_of-out c = bodies_length_is c.loop-p.invariant.0 c.requires.1
+    bodies_more c.loop-p.invariant c.loop-p-test.true c.put_body-next.ensures
 
 pub returns : goal.returns
-returns c = bodies_end c.loop-p.invariant.0 c.loop-p-test.false
+returns c = bodies_end c.loop-p.invariant c.loop-p-test.false

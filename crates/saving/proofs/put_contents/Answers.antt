@@ -1,24 +1,20 @@
 -- `put_contents` meets its contract. The loop's invariant: the entries of the places that are left are left to write.
-use borrow.Author.Rules.{rules}
 use Rattle.saving.specs.Parts.{held}
-use Rattle.saving.specs.Places.{contents_start, contents_more, contents_length_is, contents_end, enters}
+use Rattle.saving.specs.Places.{contents_start, contents_more, contents_end, enters}
 use Rattle.saving.proofs.put_contents.Goals as goal
 
 pub loop-p-init : goal.loop-p-init
 loop-p-init c =
     let a = c.args in
-    (contents_start a.row (held a.b.now a.w.now a.l.now) a.out.now a.at a.first c.requires.room, search rules)
+    contents_start a.row (held a.b.now a.w.now a.l.now) a.out.now a.at a.first c.requires.room
 
 pub put_entry-c-requires : goal.put_entry-c-requires
 put_entry-c-requires c =
-    enters c.loop-p.invariant.0 c.requires.lines c.loop-p-test.true c.requires.low
+    enters c.loop-p.invariant c.requires.lines c.loop-p-test.true c.requires.low
 
 pub loop-p-preserved : goal.loop-p-preserved
 loop-p-preserved c =
-    (contents_more c.loop-p.invariant.0 c.loop-p-test.true c.put_entry-c.ensures, search rules)
-
-pub shape_of-out : goal.shape_of-out
-shape_of-out c = contents_length_is c.loop-p.invariant.0 c.requires.room
+    contents_more c.loop-p.invariant c.loop-p-test.true c.put_entry-c.ensures
 
 pub returns : goal.returns
-returns c = contents_end c.loop-p.invariant.0 c.loop-p-test.false
+returns c = contents_end c.loop-p.invariant c.loop-p-test.false

@@ -1,12 +1,7 @@
 -- `put_contents` meets its contract. The loop's invariant: the entries of the places that are left are left to write.
-use Prim.Native.Nat.{◌≤◌, ◌-◌}
-use Rattle.rules.specs.Model.{places}
 use Rattle.saving.specs.Parts.{held}
 use Rattle.saving.specs.Places.{Lists}
 use Rattle.saving.proofs.put_contents.Given as goal
 
 abbrev pub invariant-loop-p : goal.invariant-loop-p
-invariant-loop-p l = Lists l.row (held l.b l.w l.l) l.initial.out l.at l.first l.out l.c.at l.c.body l.p × (l.p ≤ places)
-
-abbrev pub decreases-loop-p : goal.decreases-loop-p
-decreases-loop-p l = places - l.p
+invariant-loop-p l = Lists l.row (held l.b l.w l.l) l.initial.out l.at l.first l.out l.c.at l.c.body l.p

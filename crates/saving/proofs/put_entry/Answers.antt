@@ -17,5 +17,5 @@ pub returns : goal.returns
 returns c =
     let a = c.args in
     entry_whole a.row a.b.now a.w.now a.l.now a.p.0 c.requires.place c.read-t.ensures c.if-t-eq-EMPTY.false c.requires
-    c.entry-line.ensures c.put-next.ensures c.measure-n.ensures c.wide.ensures
+    c.entry-line.ensures c.put-next.ensures c.measure-n.ensures c.from.ensures
     c.body_length.ensures.0

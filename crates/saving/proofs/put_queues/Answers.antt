@@ -4,24 +4,21 @@ use mathlib.Core.Path.{refl}
 use Rattle.lists.specs.Sizes.{places}
 use Rattle.lines.specs.Lines.{line_of}
 use Rattle.saving.specs.Format.{joined}
-use Rattle.saving.specs.Queues.{queueing_start, queueing_room, queueing_more, queueing_length, queueing_end}
+use Rattle.saving.specs.Queues.{queueing_start, queueing_room, queueing_more, queueing_end}
 use Rattle.saving.proofs.put_queues.Goals as goal
 
 pub loop-q-init : goal.loop-q-init
 loop-q-init c =
     let a = c.args in
-    (queueing_start (joined (line_of places a.l.now)) a.row a.out.now a.at c.requires.2, search rules)
+    queueing_start (joined (line_of places a.l.now)) a.row a.out.now a.at c.requires.2
 
 pub put_line-next-requires : goal.put_line-next-requires
 put_line-next-requires c =
-    (c.requires.0, search rules, queueing_room c.loop-q.invariant.0 c.loop-q-test.true (line_of places c.args.l.now c.loop-q.q) (λ qs. refl))
+    (c.requires.0, search rules, queueing_room c.loop-q.invariant c.loop-q-test.true (line_of places c.args.l.now c.loop-q.q) (λ qs. refl))
 
 pub loop-q-preserved : goal.loop-q-preserved
 loop-q-preserved c =
-    (queueing_more c.loop-q.invariant.0 c.loop-q-test.true (line_of places c.args.l.now c.loop-q.q) (λ qs. refl) c.put_line-next.ensures, search rules)
-
-pub shape_of-out : goal.shape_of-out
-shape_of-out c = queueing_length c.loop-q.invariant.0 c.requires.2
+    queueing_more c.loop-q.invariant c.loop-q-test.true (line_of places c.args.l.now c.loop-q.q) (λ qs. refl) c.put_line-next.ensures
 
 pub returns : goal.returns
-returns c = queueing_end c.loop-q.invariant.0 refl c.loop-q-test.false
+returns c = queueing_end c.loop-q.invariant refl c.loop-q-test.false

@@ -1,5 +1,4 @@
 -- `put_queues` meets its contract. The loop's invariant: the places of the queues that are left are left to write.
-use Prim.Native.Nat.{◌≤◌, ◌-◌}
 use Rattle.lists.specs.Sizes.{places}
 use Rattle.lines.specs.Lines.{line_of}
 use Rattle.saving.specs.Format.{joined}
@@ -7,7 +6,4 @@ use Rattle.saving.specs.Queues.{Queueing}
 use Rattle.saving.proofs.put_queues.Given as goal
 
 abbrev pub invariant-loop-q : goal.invariant-loop-q
-invariant-loop-q l = Queueing (joined (line_of places l.l)) l.row l.initial.out l.at l.out l.next l.q × (l.q ≤ l.row.queues)
-
-abbrev pub decreases-loop-q : goal.decreases-loop-q
-decreases-loop-q l = l.row.queues - l.q
+invariant-loop-q l = Queueing (joined (line_of places l.l)) l.fn.row l.initial.out l.at l.out l.next l.q

@@ -1,37 +1,18 @@
--- `find` meets its contract: no entry before i has the number. Assumes nothing.
+-- `find` meets its contract: no entry before the one found has the number. Assumes nothing.
 use borrow.Author.Rules.{rules}
-use mathlib.Core.Path.{sym, ap, ◌∙◌}
-use Prim.Native.Nat.{ℕ, ◌+◌, ◌*◌}
-use native.Mathlib.Omega.{arith}
+use borrow.Author.Tests.{tests}
+use mathlib.Core.Path.{◌≡◌, ◌∙◌}
+use mathlib.Core.Logic.{◌≢◌}
+use Prim.Native.Nat.{◌+◌, ◌*◌}
 use lib.ListN.{get_or}
-use borrow.Author.Count.{below_more}
+use Rattle.std.proofs.lemmas.Iterator.{first_from_Range}
 use Rattle.saving.specs.Format.{entry_length}
+use Rattle.image.specs.Locating.{first_found}
 use Rattle.image.proofs.look.find.Goals as goal
-
-pub loop-i-init : goal.loop-i-init
-loop-i-init c = (omega arith, λ k h. absurd (omega arith))
-
-pub returns-then-at-n : goal.returns-then-at-n
-returns-then-at-n c =
-    let s = c.args.image.now in
-    let e = c.wide-live.ensures.0 ∙ c.at.ensures in
-    let h = c.head_length-head.ensures in
-    record {
-      upto = omega arith;
-      before = λ k l z. c.loop-i.invariant.1 k l (ap (λ (x : ℕ). get_or s (x + entry_length * k + 1) 0) h ∙ z);
-      here = λ l. ap (λ (x : ℕ). get_or s (x + entry_length * c.loop-i.i + 1) 0) (sym h) ∙ sym c.at-in-loop-i.ensures ∙ c.if-at-n.true;
-    }
-
-pub loop-i-preserved : goal.loop-i-preserved
-loop-i-preserved c = (search rules, below_more _ _ c.loop-i.invariant.1 (λ e. c.if-at-n.false (c.at-in-loop-i.ensures ∙ e)))
 
 pub returns : goal.returns
 returns c =
     let s = c.args.image.now in
-    let e = c.wide-live.ensures.0 ∙ c.at.ensures in
-    let h = c.head_length-head.ensures in
-    record {
-      upto = omega arith;
-      before = λ k l z. c.loop-i.invariant.1 k (omega arith) (ap (λ (x : ℕ). get_or s (x + entry_length * k + 1) 0) h ∙ z);
-      here = λ l. absurd (omega arith);
-    }
+    let h = c.head_length-head.result in
+    first_found c.args.row s c.args.n.0 c.find.result c.head_length-head.ensures (c.from-live.ensures ∙ c.at.ensures)
+    (first_from_Range _ _ _ c.find.result (λ i. get_or s (h + entry_length * i + 1) 0 ≡ c.args.n.0) (λ i. get_or s (h + entry_length * i + 1) 0 ≢ c.args.n.0) c.find.ensures.ran (λ x q k. search (rules, tests)) (λ x q k. search (rules, tests)))

@@ -1,19 +1,13 @@
--- `holds` meets its contract: the queues behind the row's are empty as far as the loop has come. Assumes nothing.
+-- `holds` meets its contract: the test passes at each queue behind the row's. Assumes nothing.
 use borrow.Author.Rules.{rules}
-use native.Mathlib.Omega.{arith}
-use Rattle.lists.specs.Tells.{tells_yes, tells_no}
-use Rattle.loading.specs.Judges.{bare_more, bare_not}
+use mathlib.Core.Path.{refl}
+use Rattle.lists.specs.Sizes.{queue_count}
+use Rattle.std.proofs.lemmas.Iterator.{YieldsList-from_range}
+use Rattle.std.proofs.lemmas.Iterator.Search.{all_from_yields_List}
+use Rattle.loading.specs.Judges.{is_bare, bare_tells}
 use Rattle.loading.proofs.judge.holds.Goals as goal
 
-pub loop-q-init : goal.loop-q-init
-loop-q-init c = (omega arith, λ q h k. absurd (omega arith))
-
-pub returns-then-first : goal.returns-then-first
-returns-then-first c = tells_no (bare_not c.args.l.now c.loop-q.invariant.0 c.loop-q-test.true c.first.ensures c.if-first.true)
-
-pub loop-q-preserved : goal.loop-q-preserved
-loop-q-preserved c =
-    (search rules, bare_more c.args.row.queues c.loop-q.q c.requires (omega arith) c.loop-q.invariant.1 c.first.ensures c.if-first.false)
-
 pub returns : goal.returns
-returns c = tells_yes (λ q h k. c.loop-q.invariant.1 q h (omega arith))
+returns c =
+    let e = all_from_yields_List (is_bare c.args.l.now) _ _ c.all.result c.all.ensures.ran (YieldsList-from_range c.args.row.queues queue_count _ refl refl) (λ x b q h. search rules) in
+    bare_tells c.requires c.args.row.queues e

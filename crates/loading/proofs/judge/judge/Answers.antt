@@ -8,12 +8,12 @@ use Rattle.loading.proofs.judge.judge.Goals as goal
 
 pub candidate-s-requires : goal.candidate-s-requires
 candidate-s-requires c =
-    let k = row_known c.args.image.now c.row_at-row.ensures c.requires in
+    let k = row_known c.args.image.now c.requires.0 c.requires.1 in
     (known_few k, known_places k)
 
 pub returns-then-not-consists : goal.returns-then-not-consists
 returns-then-not-consists c =
-    foreign (foreign_not c.row_at-row.ensures c.candidate-s.ensures.0 (c.consists.ensures.no c.if-not-consists.true))
+    foreign (foreign_not c.requires.0 c.candidate-s.ensures.0 (c.consists.ensures.no c.if-not-consists.true))
     c.refuse.ensures
 
 pub holds-requires : goal.holds-requires
@@ -22,16 +22,16 @@ holds-requires c =
 
 pub returns-then-not-holds : goal.returns-then-not-holds
 returns-then-not-holds c =
-    foreign (foreign_full c.row_at-row.ensures c.candidate-s.ensures.0 (c.holds.ensures.no c.if-not-holds.true))
+    foreign (foreign_full c.requires.0 c.candidate-s.ensures.0 (c.holds.ensures.no c.if-not-holds.true))
     c.refuse-then-not-holds.ensures
 
 pub same-requires : goal.same-requires
 same-requires c =
-    (known_few (row_known c.args.image.now c.row_at-row.ensures c.requires), old_consists _ (c.consists.ensures.yes c.if-not-consists.false))
+    (known_few (row_known c.args.image.now c.requires.0 c.requires.1), old_consists _ (c.consists.ensures.yes c.if-not-consists.false))
 
 pub returns-then-not-same : goal.returns-then-not-same
 returns-then-not-same c =
-    foreign (foreign_other c.row_at-row.ensures c.candidate-s.ensures.0 (c.same.ensures.no c.if-not-same.true))
+    foreign (foreign_other c.requires.0 c.candidate-s.ensures.0 (c.same.ensures.no c.if-not-same.true))
     c.refuse-then-not-same.ensures
 
 pub returns : goal.returns
@@ -41,11 +41,11 @@ returns c =
       told = refl;
       consists = k;
       image = (
-        c.row_at-row.result,
+        c.args.row,
         record {
-          known = row_known c.args.image.now c.row_at-row.ensures c.requires;
+          known = row_known c.args.image.now c.requires.0 c.requires.1;
           consistent = k.consistent;
-          holds = bare_holds c.row_at-row.result c.candidate-s.result (c.holds.ensures.yes c.if-not-holds.false) c.candidate-s.ensures.1 c.candidate-s.ensures.2;
+          holds = bare_holds c.args.row c.candidate-s.result (c.holds.ensures.yes c.if-not-holds.false) c.candidate-s.ensures.1 c.candidate-s.ensures.2;
           bytes = c.same.ensures.yes c.if-not-same.false;
         },
       );

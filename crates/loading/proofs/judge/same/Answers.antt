@@ -1,5 +1,8 @@
 -- `same` meets its contract: the candidate is written again, and compared. Assumes nothing.
-use Rattle.loading.specs.Judges.{written_room, written_tells}
+use mathlib.Core.Path.{sym}
+use Rattle.std.proofs.lemmas.Slice.Eq.{slice_eq-Decides}
+use Rattle.std.proofs.lemmas.Bool.Decides.{Decides-eqb, not_from_Decides}
+use Rattle.loading.specs.Judges.{written_tells}
 use borrow.Author.Rules.{rules}
 use Rattle.loading.proofs.judge.same.Goals as goal
 
@@ -7,9 +10,7 @@ pub write-n-requires : goal.write-n-requires
 write-n-requires c =
     (c.requires.0, rw c.desk-d.ensures c.requires.1, search rules)
 
-pub equal-requires : goal.equal-requires
-equal-requires c = written_room c.write-n.ensures
-
 pub returns : goal.returns
 returns c =
-    written_tells (rw c.desk-d.ensures at c.write-n.ensures) c.equal.ensures
+    let d = slice_eq-Decides Decides-eqb _ _ _ c.eq.ensures in
+    written_tells (rw c.desk-d.ensures at c.write-n.ensures) (record { yes = λ e. sym (d.0 e); no = λ e z. not_from_Decides _ d e (sym z) })

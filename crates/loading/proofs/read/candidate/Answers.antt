@@ -5,7 +5,7 @@ use Rattle.loading.proofs.read.candidate.Goals as goal
 
 pub returns : goal.returns
 returns c =
-    let en = c.wide-n.ensures.0 ∙ c.at.ensures in (
+    let en = c.from-n.ensures ∙ c.at.ensures in (
       candidate_shows c.clear.ensures c.fresh-l.ensures c.queues.ensures c.entries.ensures en c.filling-filled.ensures c.at-last.ensures c.at-running.ensures,
       candidate_parentless c.clear.ensures c.fresh-l.ensures c.queues.ensures c.entries.ensures en c.filling-filled.ensures c.at-last.ensures c.at-running.ensures,
       candidate_beyond c.clear.ensures c.fresh-l.ensures c.queues.ensures c.entries.ensures en c.filling-filled.ensures c.at-last.ensures c.at-running.ensures,

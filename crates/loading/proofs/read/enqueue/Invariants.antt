@@ -1,10 +1,6 @@
 -- `enqueue` meets its contract: of the places the first i have joined. Assumes nothing.
-use Prim.Native.Nat.{◌-◌, ◌≤◌}
 use Rattle.loading.specs.Reading.{Joined}
 use Rattle.loading.proofs.read.enqueue.Given as goal
 
 abbrev pub invariant-loop-i : goal.invariant-loop-i
-invariant-loop-i l = (l.i ≤ l.count) × Joined l.image l.from l.count l.q l.i l.initial.l l.l
-
-abbrev pub decreases-loop-i : goal.decreases-loop-i
-decreases-loop-i l = l.count - l.i
+invariant-loop-i l = Joined l.image l.from l.count l.q l.i l.initial.l l.l

@@ -13,4 +13,4 @@ pub returns : goal.returns
 returns c =
     let i = c.args.i in
     entered_one c.seat.ensures (rw c.body_length.ensures.0 at c.enqueue.ensures) c.if-p-row.false (ap (λ (n : ℕ). n + entry_length * i) c.head_length.ensures) c.at-p.ensures
-    c.at.ensures c.two-o.ensures.0 (c.wide-count.ensures.0 ∙ c.at-2.ensures)
+    c.at.ensures c.two-o.ensures.0 (c.from-count.ensures ∙ c.at-2.ensures)

@@ -1,5 +1,0 @@
--- `load_old` meets its contract. Assumes nothing.
-use Rattle.loading.proofs.load_old.Goals as goal
-
-pub returns : goal.returns
-returns c = c.load_by.ensures
