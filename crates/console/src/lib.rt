@@ -58,6 +58,11 @@ fn words(reason: &str) -> &str {
         .map_or(reason, |(words, _)| words)
 }
 
+// The first n bytes, as far as there are.
+pub fn front(bytes: &[u8], n: usize) -> &[u8] {
+    bytes.get(..n).unwrap_or(bytes)
+}
+
 // Bytes, as two hexadecimal digits each.
 #[derive(Clone, Copy)]
 pub struct Hex<'a>(pub &'a [u8]);
@@ -79,7 +84,7 @@ impl fmt::Display for ImageOf {
     fn fmt<W: fmt::Write>(&self, f: &mut fmt::Formatter<W>) -> fmt::Result {
         let mut buffer = [0u8; image::LONGEST];
         let r = image::save(self.0, &mut buffer);
-        write!(f, "{}", Hex(buffer.get(..r.length).unwrap_or(&buffer)))
+        write!(f, "{}", Hex(front(&buffer, r.length)))
     }
 }
 
