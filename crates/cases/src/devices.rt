@@ -1,6 +1,5 @@
 // The cases of document 02's P1: threads wait at devices, and interrupts wake them.
-use super::{kept, line, replayed, thread, two};
-use nucleus::State;
+use super::{alone, kept, line, replayed, thread, two};
 use rules::{Device, Pending, Place};
 use std::io;
 
@@ -44,10 +43,6 @@ fn woken(rt: &impl Print) -> io::Result<()> {
         Place(0),
     )?;
     Ok(())
-}
-
-fn alone(rt: &impl Print) -> io::Result<State> {
-    line(rt, "0 alone", State::fresh().create(), Place(0))
 }
 
 // The set of the keypad alone, which is the second index of the high half.

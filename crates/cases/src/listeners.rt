@@ -1,6 +1,5 @@
 // The cases of document 02's P2: whoever receives from a thread is told when that thread ends, and nobody can begin to receive from a dead one.
-use super::{ANY, after, kept, line, thread, two};
-use nucleus::State;
+use super::{ANY, after, alone, kept, line, thread, two};
 use rules::{Number, Place};
 use std::io;
 
@@ -49,7 +48,7 @@ fn others(rt: &impl Print) -> io::Result<()> {
 
 // There is no 254, 0 is the caller itself, and 5 is dead; but that nobody runs who could receive comes first. 255 still means any, though it is nobody's.
 fn refused(rt: &impl Print) -> io::Result<()> {
-    let s = line(rt, "0 alone", State::fresh().create(), Place(0))?;
+    let s = alone(rt)?;
     line(rt, "0 receives from 254", s.receive(Number(254)), Place(0))?;
     line(rt, "0 receives from 0", s.receive(Number(0)), Place(0))?;
     line(rt, "0 receives from 5", s.receive(Number(5)), Place(0))?;

@@ -76,6 +76,10 @@ fn kept(rt: &impl Print, s: State) -> io::Result<()> {
     )
 }
 
+fn alone(rt: &impl Print) -> io::Result<State> {
+    line(rt, "0 alone", State::fresh().create(), Place(0))
+}
+
 // Create twice.
 fn two(rt: &impl Print) -> io::Result<State> {
     let s = line(rt, "create", State::fresh().create(), Place(0))?;
@@ -103,7 +107,7 @@ fn ended(rt: &impl Print) -> io::Result<()> {
 }
 
 fn refused(rt: &impl Print) -> io::Result<()> {
-    let s = line(rt, "0 alone", State::fresh().create(), Place(0))?;
+    let s = alone(rt)?;
     line(rt, "0 sends to 254", s.send(Number(254), 7), Place(0))?;
     line(rt, "0 sends to 0", s.send(Number(0), 7), Place(0))?;
     line(rt, "0 sends to 5", s.send(Number(5), 7), Place(0))?;
@@ -141,14 +145,14 @@ fn passed_over(rt: &impl Print) -> io::Result<()> {
 }
 
 fn waits(rt: &impl Print) -> io::Result<()> {
-    let s = line(rt, "0 alone", State::fresh().create(), Place(0))?;
+    let s = alone(rt)?;
     let s = line(rt, "0 waits for the clock", s.wait_clock(), Place(0))?;
     line(rt, "tick", s.tick(), Place(0))?;
     Ok(())
 }
 
 fn sticks(rt: &impl Print) -> io::Result<()> {
-    let s = line(rt, "0 alone", State::fresh().create(), Place(0))?;
+    let s = alone(rt)?;
     let s = line(rt, "0 receives any", s.receive(Number(ANY)), Place(0))?;
     line(rt, "tick", s.tick(), Place(0))?;
     Ok(())

@@ -125,7 +125,8 @@ fn desks(rt: &impl Print, s: State) -> io::Result<()> {
     tried(rt, "the last number is 254", no_number(s))
 }
 
-// The state with one byte, word or link changed.
+// The state with one byte, word or link changed. Each names an array of its own, so one function for the three would take that as
+// well, and be no shorter.
 fn byte(mut s: State, at: usize, x: u8) -> State {
     if at < table::BYTES {
         s.blocks[at] = x;

@@ -1,6 +1,6 @@
 // The depot's texts (document 02, P7): what the report and the loads that wait say of an image and its log. Each is written into a buffer that is longer than
 // it, and then into one that is a byte too short. The buffers are full of one byte, and what is not written must be so still.
-use depot::{Sheet, Told};
+use depot::Sheet;
 use std::io;
 
 const FILL: u8 = 0xa6;
@@ -88,13 +88,6 @@ fn both(rt: &impl Print, what: &str, image: &[u8], log: &[u8]) -> io::Result<()>
     shown(rt, image, log, Sheet::Pay)
 }
 
-fn tell(image: &[u8], log: &[u8], sheet: Sheet, out: &mut [u8]) -> Told {
-    match sheet {
-        Sheet::Report => depot::report(image, log, out),
-        Sheet::Pay => depot::loads(image, log, out),
-    }
-}
-
 // What is told into a buffer that is long enough, and the text; and then into one that is a byte too short, where there is none.
 fn shown(rt: &impl Print, image: &[u8], log: &[u8], sheet: Sheet) -> io::Result<()> {
     let mut buffer = [FILL; ROOM];
@@ -129,7 +122,10 @@ fn told(
     sheet: Sheet,
     out: &mut [u8],
 ) -> io::Result<usize> {
-    let t = tell(image, log, sheet, out);
+    let t = match sheet {
+        Sheet::Report => depot::report(image, log, out),
+        Sheet::Pay => depot::loads(image, log, out),
+    };
     let n = usize::from(t.length);
     print!(rt; "{}, {n} bytes", t.code)?;
     if out.iter().skip(n).all(|x| *x == FILL) {

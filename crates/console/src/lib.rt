@@ -130,7 +130,8 @@ pub fn argument(rt: &impl Env, i: usize, buffer: &mut [u8]) -> io::Result<usize>
     })
 }
 
-// Standard input, as far as the buffer goes: how many bytes, at its start. None where reading failed, which has been said then; so it is of each that reads here.
+// Standard input, as far as the buffer goes: how many bytes, at its start. None where reading failed, which has been said then. So it is with whatever is read
+// here.
 pub fn input(rt: &(impl Input + Eprint), buffer: &mut [u8]) -> Option<usize>
     ensures { IfSome result (λ n. IsPrefixLen n buffer.new) }
 {

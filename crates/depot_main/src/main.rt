@@ -5,7 +5,7 @@ ghost use Rattle.std.specs.Prelude.{◌+◌, ◌≤◌, length, IfSome};
 ghost use Rattle.std.specs.Counts.{IsPrefixLen};
 
 use console::PATH_MAX;
-use depot::{Sheet, Told};
+use depot::Sheet;
 use std::io;
 use std::rt::{Env, Files};
 
@@ -105,12 +105,7 @@ fn is_there(rt: &(impl Files + Eprint), folder: &[u8]) -> bool {
 }
 
 // The file of that name in a folder. One that is missing counts as empty.
-fn file(
-    rt: &(impl Files + Eprint),
-    folder: &[u8],
-    name: &[u8],
-    buffer: &mut [u8],
-) -> Option<usize>
+fn file(rt: &(impl Files + Eprint), folder: &[u8], name: &[u8], buffer: &mut [u8]) -> Option<usize>
     requires { length folder.now + length name.now ≤ 4104 }
     ensures { IfSome result (λ n. IsPrefixLen n buffer.new) }
 {
@@ -141,17 +136,11 @@ fn show(
     several: bool,
 ) {
     let mut text = [0u8; depot::LONGEST_LOADS];
-    let t = tell(image, log, sheet, &mut text);
-    write(rt, folder, &text[..t.length as usize], several);
-}
-
-fn tell(image: &[u8], log: &[u8], sheet: Sheet, text: &mut [u8]) -> Told
-    ensures { IsPrefixLen result.length text.new }
-{
-    match sheet {
-        Sheet::Report => depot::report(image, log, text),
-        Sheet::Pay => depot::loads(image, log, text),
-    }
+    let t = match sheet {
+        Sheet::Report => depot::report(image, log, &mut text),
+        Sheet::Pay => depot::loads(image, log, &mut text),
+    };
+    write(rt, folder, &text[..usize::from(t.length)], several);
 }
 
 // Writes a text. Where that fails it is said, since the text may not be whole then.

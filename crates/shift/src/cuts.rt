@@ -75,10 +75,10 @@ fn whole_at(marks: &[Mark], i: usize, k: usize) -> usize
     requires { i < length marks.now }
     ensures { result < length marks.now }
 {
-    if i + 1 < marks.len() && marks[i + 1].position <= k {
-        return i + 1;
+    match marks.get(i + 1) {
+        Some(next) if next.position <= k => i + 1,
+        _ => i,
     }
-    i
 }
 
 // The image is loaded and a cut log replayed, of which i records are whole. There was `then` behind them.

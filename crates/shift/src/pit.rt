@@ -91,14 +91,11 @@ pub fn raises(dice: u32, thrown: u32) -> Event {
 
 // A key is typed. Now and then nothing is pending at all, or the screen is too, which has the lower index: then nobody is served.
 fn typed(d: u32) -> Pending {
-    if d == 0 {
-        return nothing();
+    match d {
+        0 => nothing(),
+        1 => both(only(keypad()), only(screen())),
+        _ => only(keypad()),
     }
-    let key = only(keypad());
-    if d == 1 {
-        return both(key, only(screen()));
-    }
-    key
 }
 
 // A truck stands on the scale. Now and then a key is typed too, but the scale has the lower index and is served.
