@@ -1,6 +1,5 @@
 // The cases of document 02's P1: threads wait at devices, and interrupts wake them.
-use super::{kept, line, replayed, thread, two};
-use nucleus::State;
+use super::{alone, kept, line, replayed, thread, two};
 use rules::{Device, Pending, Place};
 use std::io;
 
@@ -20,34 +19,30 @@ fn woken(rt: &impl Print) -> io::Result<()> {
     let s = alone(rt)?;
     let s = line(
         rt,
-        b"0 waits at device 33",
+        "0 waits at device 33",
         s.wait_device(Device(KEYPAD)),
         Place(0),
     )?;
     kept(rt, s)?;
     line(
         rt,
-        b"32 and 33 interrupt with 5",
+        "32 and 33 interrupt with 5",
         s.interrupt(high(3), 5),
         Place(0),
     )?;
     line(
         rt,
-        b"none interrupts with 5",
+        "none interrupts with 5",
         s.interrupt(high(0), 5),
         Place(0),
     )?;
     line(
         rt,
-        b"33 interrupts with 5",
+        "33 interrupts with 5",
         s.interrupt(keypad(), 5),
         Place(0),
     )?;
     Ok(())
-}
-
-fn alone(rt: &impl Print) -> io::Result<State> {
-    line(rt, b"0 alone", State::fresh().create(), Place(0))
 }
 
 // The set of the keypad alone, which is the second index of the high half.
@@ -65,26 +60,26 @@ fn first_come(rt: &impl Print) -> io::Result<()> {
     let s = two(rt)?;
     let s = line(
         rt,
-        b"0 waits at device 33",
+        "0 waits at device 33",
         s.wait_device(Device(KEYPAD)),
         Place(0),
     )?;
     let s = line(
         rt,
-        b"1 waits at device 33",
+        "1 waits at device 33",
         s.wait_device(Device(KEYPAD)),
         Place(1),
     )?;
     let s = line(
         rt,
-        b"33 interrupts with 5",
+        "33 interrupts with 5",
         s.interrupt(keypad(), 5),
         Place(0),
     )?;
     thread(rt, s, Place(1))?;
     let s = line(
         rt,
-        b"33 interrupts with 6",
+        "33 interrupts with 6",
         s.interrupt(keypad(), 6),
         Place(0),
     )?;
@@ -96,20 +91,20 @@ fn first_index(rt: &impl Print) -> io::Result<()> {
     let s = two(rt)?;
     let s = line(
         rt,
-        b"0 waits at device 33",
+        "0 waits at device 33",
         s.wait_device(Device(KEYPAD)),
         Place(0),
     )?;
     let s = line(
         rt,
-        b"1 waits at device 1, its own number",
+        "1 waits at device 1, its own number",
         s.wait_device(Device(1)),
         Place(1),
     )?;
     let both = Pending { low: 2, high: 2 };
     let s = line(
         rt,
-        b"1 and 33 interrupt with 5",
+        "1 and 33 interrupt with 5",
         s.interrupt(both, 5),
         Place(0),
     )?;
@@ -121,19 +116,19 @@ fn refused(rt: &impl Print) -> io::Result<()> {
     let s = alone(rt)?;
     line(
         rt,
-        b"0 waits at device 48",
+        "0 waits at device 48",
         s.wait_device(Device(48)),
         Place(0),
     )?;
     let s = line(
         rt,
-        b"0 waits at device 47",
+        "0 waits at device 47",
         s.wait_device(Device(47)),
         Place(0),
     )?;
     line(
         rt,
-        b"nobody waits at device 48",
+        "nobody waits at device 48",
         s.wait_device(Device(48)),
         Place(0),
     )?;
@@ -143,6 +138,6 @@ fn refused(rt: &impl Print) -> io::Result<()> {
 // A create, the wait and the interrupt; and the same cut inside the interrupt's record.
 fn logs(rt: &impl Print) -> io::Result<()> {
     let log = [1u8, 9, KEYPAD, 10, 0, 0, 0, 0, 2, 0, 5, 0, 0, 0];
-    replayed(rt, b"log 01 09 21 0a 00 00 00 00 02 00 05 00 00 00", &log)?;
-    replayed(rt, b"cut to 13 bytes", &log[..13])
+    replayed(rt, "log 01 09 21 0a 00 00 00 00 02 00 05 00 00 00", &log)?;
+    replayed(rt, "cut to 13 bytes", &log[..13])
 }

@@ -3,12 +3,11 @@
 // consistent, so that the output shows that the answers can be others.
 use super::after;
 use super::devices::{KEYPAD, keypad};
-use lines::Links;
-use logging::Recorded;
+use console::Chosen;
 use nucleus::{Reply, State};
 use rules::{Choice, Device, Event, Number, Place};
 use std::io;
-use table::{Blocks, Thread, Words};
+use table::Thread;
 
 // A byte of a buffer before it is lent: neither an image nor a log is made of these.
 const BLANK: u8 = 170;
@@ -27,7 +26,7 @@ const KEYPAD_LINE: usize = (table::DEVICE_LINES + KEYPAD) as usize;
 
 pub fn all(rt: &impl Print) -> io::Result<()> {
     let s = cab();
-    tried(rt, b"nothing mangled", s)?;
+    tried(rt, "nothing mangled", s)?;
     threads(rt, s)?;
     queues(rt, s)?;
     devices(rt, s)?;
@@ -39,60 +38,54 @@ pub fn all(rt: &impl Print) -> io::Result<()> {
 fn cab() -> State {
     let log = [1u8, 1, 1, 1, 1, 1, 2, 1, 7, 0, 0, 0, 6, 7, 7, 9, KEYPAD];
     let s = after(&log);
-    let r = s.receive(Number(1));
-    let t = r.state;
-    t
+    s.receive(Number(1)).state
 }
 
 // ---- the states
 
 fn threads(rt: &impl Print, s: State) -> io::Result<()> {
+    tried(rt, "two threads, one number", byte(s, table::NUMBER + 3, 2))?;
     tried(
         rt,
-        b"two threads, one number",
-        byte(s, table::NUMBER + 3, 2),
-    )?;
-    tried(
-        rt,
-        b"a partner that does not live",
+        "a partner that does not live",
         byte(s, table::PARTNER, 9),
     )?;
     tried(
         rt,
-        b"a receiver that names a dead thread",
+        "a receiver that names a dead thread",
         byte(s, table::PARTNER + 5, 9),
     )?;
-    tried(rt, b"an answer of code 17", byte(s, table::CODE + 2, 17))?;
+    tried(rt, "an answer of code 17", byte(s, table::CODE + 2, 17))?;
     tried(
         rt,
-        b"an answer of code 16 from nobody",
+        "an answer of code 16 from nobody",
         byte(s, table::CODE + 2, 16),
     )?;
-    tried(rt, b"a word in a ready thread", word(s, table::WORD + 3, 1))?;
+    tried(rt, "a word in a ready thread", word(s, table::WORD + 3, 1))?;
     tried(
         rt,
-        b"a parent that does not live",
+        "a parent that does not live",
         byte(s, table::PARENT + 3, 9),
     )?;
     tried(
         rt,
-        b"a thread that is its own parent",
+        "a thread that is its own parent",
         byte(s, table::PARENT + 3, 3),
     )?;
     tried(
         rt,
-        b"two that are each other's parents",
+        "two that are each other's parents",
         byte(s, table::PARENT, 3),
     )
 }
 
 fn queues(rt: &impl Print, s: State) -> io::Result<()> {
-    tried(rt, b"a line that is a ring", link(s, 3, 3))?;
+    tried(rt, "a line that is a ring", link(s, 3, 3))?;
     // 3, the only one in ready, stands behind 1 in the clock line too, as its last.
     let t = link(s, 1, 3);
     tried(
         rt,
-        b"a place in two lines",
+        "a place in two lines",
         link(t, LAST + table::CLOCK_LINE as usize, 3),
     )
 }
@@ -100,39 +93,40 @@ fn queues(rt: &impl Print, s: State) -> io::Result<()> {
 fn devices(rt: &impl Print, s: State) -> io::Result<()> {
     tried(
         rt,
-        b"a waiter at a device that is none",
+        "a waiter at a device that is none",
         byte(s, table::PARTNER + 4, lines::DEVICES as u8),
     )?;
     tried(
         rt,
-        b"a waiter in another device's line",
+        "a waiter in another device's line",
         byte(s, table::PARTNER + 4, KEYPAD + 1),
     )?;
     tried(
         rt,
-        b"a word in a waiter at a device",
+        "a word in a waiter at a device",
         word(s, table::WORD + 4, 1),
     )?;
     let t = link(s, lines::PLACES + KEYPAD_LINE, lines::NONE);
     tried(
         rt,
-        b"a waiter in no line",
+        "a waiter in no line",
         link(t, LAST + KEYPAD_LINE, lines::NONE),
     )
 }
 
 fn desks(rt: &impl Print, s: State) -> io::Result<()> {
-    tried(rt, b"another runs than stands so", running(s, Place(3)))?;
+    tried(rt, "another runs than stands so", running(s, Place(3)))?;
     tried(
         rt,
-        b"the running place is no place",
+        "the running place is no place",
         running(s, Place(lines::PLACES as u8)),
     )?;
-    tried(rt, b"an empty place in the filled set", one_more(s))?;
-    tried(rt, b"the last number is 254", no_number(s))
+    tried(rt, "an empty place in the filled set", one_more(s))?;
+    tried(rt, "the last number is 254", no_number(s))
 }
 
-// The state with one byte, word or link changed.
+// The state with one byte, word or link changed. Each names an array of its own, so one function for the three would take that as
+// well, and be no shorter.
 fn byte(mut s: State, at: usize, x: u8) -> State {
     if at < table::BYTES {
         s.blocks[at] = x;
@@ -165,87 +159,78 @@ fn one_more(mut s: State) -> State {
 }
 
 fn no_number(mut s: State) -> State {
-    let n = Number(254);
-    s.last = n;
+    s.last = Number(254);
     s
 }
 
 // ---- the operations
 
-fn tried(rt: &impl Print, what: &[u8], s: State) -> io::Result<()> {
-    console::text(rt, what)?;
+fn tried(rt: &impl Print, what: &str, s: State) -> io::Result<()> {
+    print!(rt; "{what}")?;
     looked(rt, s)?;
     acted(rt, s)
 }
 
 // What the operations that only look give.
 fn looked(rt: &impl Print, s: State) -> io::Result<()> {
-    console::text(rt, b": consistent ")?;
-    console::say(rt, s.consistent() as u64, b", ")?;
-    console::choice(rt, s.choice())?;
-    console::text(rt, b", live ")?;
-    console::say(rt, s.live() as u64, b", empty place ")?;
-    let p = s.empty_place();
-    console::say(rt, p.0 as u64, b", thread")?;
-    fields(rt, s.thread(Place(0)))?;
-    console::text(rt, b"\n")
+    print!(rt;
+        ": consistent {}, {}, live {}, empty place {}, thread",
+        s.consistent() as u8,
+        Chosen(s.choice()),
+        s.live(),
+        s.empty_place().0
+    )?;
+    fields(rt, s.thread(Place(0)))
 }
 
-// A thread's fields, in the order of the image.
+// A thread's fields, in the order of the image, and the line's end.
 fn fields(rt: &impl Print, t: Thread) -> io::Result<()> {
     let a = t.answer;
-    field(rt, t.number.0 as u64)?;
-    field(rt, t.standing as u64)?;
-    field(rt, t.partner.0 as u64)?;
-    field(rt, t.word as u64)?;
-    field(rt, a.code as u64)?;
-    field(rt, a.who.0 as u64)?;
-    field(rt, a.word as u64)?;
-    field(rt, t.parent.0 as u64)
-}
-
-fn field(rt: &impl Print, x: u64) -> io::Result<()> {
-    console::text(rt, b" ")?;
-    console::number(rt, x)
+    println!(rt;
+        " {} {} {} {} {} {} {} {}",
+        t.number.0, t.standing, t.partner.0, t.word, a.code, a.who.0, a.word, t.parent.0
+    )
 }
 
 // What the operations that act give: the code of each, and whether all of them refused.
 fn acted(rt: &impl Print, s: State) -> io::Result<()> {
-    console::text(rt, b"    events")?;
+    print!(rt; "    events")?;
     let e = events(rt, s)?;
     let k = saved(rt, s)?;
     let r = recorded(rt, s)?;
     let p = replayed(rt, s)?;
-    if e & k & r & p {
-        console::text(rt, b": halt, nobody, none, all as it was\n")?;
+    if e && k && r && p {
+        println!(rt; ": halt, nobody, none, all as it was")
     } else {
-        console::text(rt, b": at ! another answer\n")?;
+        println!(rt; ": at ! another answer")
     }
-    Ok(())
 }
 
 // Each of the ten events by its own method, and one by `step`.
 fn events(rt: &impl Print, s: State) -> io::Result<bool> {
-    let a = event(rt, s, s.create())?;
-    let b = event(rt, s, s.send(Number(3), 7))?;
-    let c = event(rt, s, s.receive(Number(rules::NOBODY)))?;
-    let d = event(rt, s, s.reply(Number(0), 9))?;
-    let e = event(rt, s, s.end(Number(1)))?;
-    let f = event(rt, s, s.wait_clock())?;
-    let g = event(rt, s, s.slice_end())?;
-    let h = event(rt, s, s.tick())?;
-    let i = event(rt, s, s.wait_device(Device(KEYPAD)))?;
-    let j = event(rt, s, s.interrupt(keypad(), 5))?;
-    let k = event(rt, s, s.step(Event::Tick))?;
-    Ok(a & b & c & d & e & f & g & h & i & j & k)
+    let replies = [
+        s.create(),
+        s.send(Number(3), 7),
+        s.receive(Number(rules::NOBODY)),
+        s.reply(Number(0), 9),
+        s.end(Number(1)),
+        s.wait_clock(),
+        s.slice_end(),
+        s.tick(),
+        s.wait_device(Device(KEYPAD)),
+        s.interrupt(keypad(), 5),
+        s.step(Event::Tick),
+    ];
+    let mut refused = true;
+    for r in &replies {
+        refused &= event(rt, s, *r)?;
+    }
+    Ok(refused)
 }
 
 fn event(rt: &impl Print, s: State, r: Reply) -> io::Result<bool> {
-    let t = r.state;
-    let choice = r.choice;
-    let number = r.number;
-    let none = halts(choice) & (number.0 == rules::NOBODY);
-    told(rt, r.code, none & same(s, t))
+    let none = halts(r.choice) && r.number.0 == rules::NOBODY;
+    told(rt, r.code, none && same(s, r.state))
 }
 
 // The buffer would hold any image.
@@ -253,81 +238,46 @@ fn saved(rt: &impl Print, s: State) -> io::Result<bool> {
     let before = [BLANK; image::LONGEST];
     let mut buffer = before;
     let r = image::save(s, &mut buffer);
-    let kept = check::same(&before, &buffer);
-    console::text(rt, b", save")?;
-    told(rt, r.code, (r.length == 0) & kept)
+    print!(rt; ", save")?;
+    told(rt, r.code, r.length == 0 && buffer == before)
 }
 
 fn recorded(rt: &impl Print, s: State) -> io::Result<bool> {
     let before = [BLANK; LOG];
     let mut log = before;
-    console::text(rt, b", record")?;
+    print!(rt; ", record")?;
     let r = logging::record(s, &mut log, START, Event::Tick);
-    unrecorded(rt, s, r, check::same(&before, &log))
-}
-
-fn unrecorded(rt: &impl Print, s: State, r: Recorded, kept: bool) -> io::Result<bool> {
-    let t = r.state;
-    let choice = r.choice;
-    let number = r.number;
-    let none = halts(choice) & (number.0 == rules::NOBODY) & (r.position == START);
-    told(rt, r.code, none & kept & same(s, t))
+    let none = halts(r.choice) && r.number.0 == rules::NOBODY && r.position == START;
+    told(rt, r.code, none && log == before && same(s, r.state))
 }
 
 // The log is that of a create and a tick.
 fn replayed(rt: &impl Print, s: State) -> io::Result<bool> {
     let log = [1u8, 8];
     let r = logging::replay(s, &log);
-    let t = r.state;
-    let choice = r.choice;
-    let none = halts(choice) & (r.records == 0) & (r.bytes == 0);
-    console::text(rt, b", replay")?;
-    told(rt, r.code, none & same(s, t))
+    let none = halts(r.choice) && r.records == 0 && r.bytes == 0;
+    print!(rt; ", replay")?;
+    told(rt, r.code, none && same(s, r.state))
 }
 
 // The code of an operation, and whether it refused: with 14, and in all else as it is to. One that did not is marked.
 fn told(rt: &impl Print, code: u8, quiet: bool) -> io::Result<bool> {
-    field(rt, code as u64)?;
-    if quiet & (code == rules::codes::INCONSISTENT) {
+    print!(rt; " {code}")?;
+    if quiet && code == rules::codes::INCONSISTENT {
         return Ok(true);
     }
-    console::text(rt, b"!")?;
+    print!(rt; "!")?;
     Ok(false)
 }
 
 // ---- what is compared
 
 fn halts(choice: Choice) -> bool {
-    choice.kind() == Choice::Halt.kind()
+    matches!(choice, Choice::Halt)
 }
 
 // Are two states the same, to the byte?
 fn same(s: State, t: State) -> bool {
-    let a = s.blocks;
-    let b = t.blocks;
-    let c = s.lines;
-    let d = t.lines;
-    let e = s.words;
-    let f = t.words;
-    let desk = (s.filled == t.filled) & (s.last.0 == t.last.0) & (s.running.0 == t.running.0);
-    desk & same_blocks(&a, &b) & same_links(&c, &d) & same_words(&e, &f)
-}
-
-fn same_blocks(a: &Blocks, b: &Blocks) -> bool {
-    check::same(a, b)
-}
-
-fn same_links(a: &Links, b: &Links) -> bool {
-    check::same(a, b)
-}
-
-fn same_words(a: &Words, b: &Words) -> bool {
-    let mut i = 0;
-    while i < table::WORDS {
-        if a[i] != b[i] {
-            return false;
-        }
-        i += 1;
-    }
-    true
+    let desk = s.filled == t.filled && s.last.0 == t.last.0 && s.running.0 == t.running.0;
+    desk && s.blocks == t.blocks && s.lines == t.lines && s.words == t.words
 }

@@ -10,22 +10,22 @@ pub fn all(rt: &impl Print) -> io::Result<()> {
 // The first place that an edition cannot name, and of editions 3 and 4 the last that they can.
 fn contents(rt: &impl Print) -> io::Result<()> {
     let first = b"\x01\0\x20\x01\0\0\x19\0\x20\0\x0c\0\x01\xff\0\0\0\0\0\xff\0\0\0\0\0";
-    updated(rt, b"0 runs at place 32, in edition 1", first)?;
+    updated(rt, "0 runs at place 32, in edition 1", first)?;
     let second =
         b"\x02\0\x20\x01\0\0\0\0\0\0\0\0\0\0\0\0\0\0\0\0\0\0\0\0\0\0\0\0\0\0\0\0\0\0\0\0\0\0\0\0\0\0\0\0\0\0\0\0\0\0\0\0\0\0\x49\0\x20\0\x3c\0\x01\xff\0\0\0\0\0\xff\0\0\0\0\0";
-    updated(rt, b"0 runs at place 32, in edition 2", second)?;
+    updated(rt, "0 runs at place 32, in edition 2", second)?;
     let third =
         b"\x03\0\x1f\x01\0\0\0\0\0\0\0\0\0\0\0\0\0\0\0\0\0\0\0\0\0\0\0\0\0\0\0\0\0\0\0\0\0\0\0\0\0\0\0\0\0\0\0\0\0\0\0\0\0\0\x4a\0\x1f\0\x3c\0\x01\xff\0\0\0\0\0\xff\0\0\0\0\0\xff";
-    updated(rt, b"0 runs at place 31, in edition 3", third)?;
+    updated(rt, "0 runs at place 31, in edition 3", third)?;
     let above =
         b"\x03\0\x20\x01\0\0\0\0\0\0\0\0\0\0\0\0\0\0\0\0\0\0\0\0\0\0\0\0\0\0\0\0\0\0\0\0\0\0\0\0\0\0\0\0\0\0\0\0\0\0\0\0\0\0\x4a\0\x20\0\x3c\0\x01\xff\0\0\0\0\0\xff\0\0\0\0\0\xff";
-    updated(rt, b"0 runs at place 32, in edition 3", above)?;
+    updated(rt, "0 runs at place 32, in edition 3", above)?;
     let newest =
         b"\x04\0\x3f\x01\0\0\0\0\0\0\0\0\0\0\0\0\0\0\0\0\0\0\0\0\0\0\0\0\0\0\0\0\0\0\0\0\0\0\0\0\0\0\0\0\0\0\0\0\0\0\0\0\0\0\x4a\0\x3f\0\x3c\0\x01\xff\0\0\0\0\0\xff\0\0\0\0\0\xff";
-    updated(rt, b"0 runs at place 63, in edition 4", newest)?;
+    updated(rt, "0 runs at place 63, in edition 4", newest)?;
     let nowhere =
         b"\x04\0\x40\x01\0\0\0\0\0\0\0\0\0\0\0\0\0\0\0\0\0\0\0\0\0\0\0\0\0\0\0\0\0\0\0\0\0\0\0\0\0\0\0\0\0\0\0\0\0\0\0\0\0\0\x4a\0\x40\0\x3c\0\x01\xff\0\0\0\0\0\xff\0\0\0\0\0\xff";
-    updated(rt, b"0 runs at place 64, in edition 4", nowhere)?;
+    updated(rt, "0 runs at place 64, in edition 4", nowhere)?;
     Ok(())
 }
 
@@ -33,15 +33,15 @@ fn contents(rt: &impl Print) -> io::Result<()> {
 fn elsewhere(rt: &impl Print) -> io::Result<()> {
     let ready =
         b"\x03\x01\0\x02\x01\0\0\0\0\0\0\0\0\0\0\0\0\0\0\0\0\0\0\0\0\0\0\0\0\0\0\0\0\0\0\0\0\0\0\0\0\0\0\0\0\0\0\0\0\0\0\0\0\0\x5d\0\0\0\x41\0\x28\x01\x4f\0\x28\x01\xff\0\0\0\0\0\xff\0\0\0\0\0\xff\x02\xff\0\0\0\0\0\xff\0\0\0\0\0\0";
-    updated(rt, b"1 is ready at place 40, in edition 3", ready)?;
+    updated(rt, "1 is ready at place 40, in edition 3", ready)?;
     let ready =
         b"\x04\x01\0\x02\x01\0\0\0\0\0\0\0\0\0\0\0\0\0\0\0\0\0\0\0\0\0\0\0\0\0\0\0\0\0\0\0\0\0\0\0\0\0\0\0\0\0\0\0\0\0\0\0\0\0\x5d\0\0\0\x41\0\x28\x01\x4f\0\x28\x01\xff\0\0\0\0\0\xff\0\0\0\0\0\xff\x02\xff\0\0\0\0\0\xff\0\0\0\0\0\0";
-    updated(rt, b"1 is ready at place 40, in edition 4", ready)?;
+    updated(rt, "1 is ready at place 40, in edition 4", ready)?;
     let inbox =
         b"\x03\x01\0\x02\0\0\0\0\0\0\0\0\0\0\0\0\0\0\0\0\0\0\0\0\0\0\0\0\0\0\0\0\0\0\0\0\0\0\0\0\0\0\0\0\0\0\0\0\0\0\0\0\0\0\x5d\0\0\0\x40\0\x28\x01\x4f\0\x01\xff\0\0\0\0\0\xff\0\0\0\0\x01\xff\x28\x03\0\x07\0\0\0\0\xff\0\0\0\0\0\0";
-    updated(rt, b"1 sends 7 from place 40, in edition 3", inbox)?;
+    updated(rt, "1 sends 7 from place 40, in edition 3", inbox)?;
     let inbox =
         b"\x04\x01\0\x02\0\0\0\0\0\0\0\0\0\0\0\0\0\0\0\0\0\0\0\0\0\0\0\0\0\0\0\0\0\0\0\0\0\0\0\0\0\0\0\0\0\0\0\0\0\0\0\0\0\0\x5d\0\0\0\x40\0\x28\x01\x4f\0\x01\xff\0\0\0\0\0\xff\0\0\0\0\x01\xff\x28\x03\0\x07\0\0\0\0\xff\0\0\0\0\0\0";
-    updated(rt, b"1 sends 7 from place 40, in edition 4", inbox)?;
+    updated(rt, "1 sends 7 from place 40, in edition 4", inbox)?;
     Ok(())
 }

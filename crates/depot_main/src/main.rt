@@ -1,11 +1,11 @@
 // Tells what a dead terminal's cab.img and cab.log come to (docs/DEPOT.md). depot [--loads] [FOLDER ..]: the files in each folder, or in this one.
 #![tactic(auto)]
 
-ghost use Rattle.std.specs.Prelude.{◌+◌, ◌≤◌, length};
+ghost use Rattle.std.specs.Prelude.{◌+◌, ◌≤◌, length, IfSome};
 ghost use Rattle.std.specs.Counts.{IsPrefixLen};
 
-use console::{PATH_MAX, Reading};
-use depot::Told;
+use console::PATH_MAX;
+use depot::Sheet;
 use std::io;
 use std::rt::{Env, Files};
 
@@ -15,58 +15,39 @@ const PATH: usize = PATH_MAX + 8;
 // Options are read first, so that nothing is written where one is not known.
 fn main(rt: HostRuntime) {
     let args = console::arg_count(&rt);
-    let pay = asks_loads(&rt);
-    let first = first_folder(pay);
+    let sheet = sheet_asked(&rt);
+    let first = first_folder(sheet);
     if has_option(&rt, first, args) {
-        console::complain(&rt, b"usage: depot [--loads] [FOLDER ..]\n");
+        console::complain(&rt, "usage: depot [--loads] [FOLDER ..]\n");
         return;
     }
     if args <= first {
-        from_folder(&rt, b".", pay, false);
+        from_folder(&rt, b".", sheet, false);
         return;
     }
-    from_all(&rt, first, args, pay);
+    from_all(&rt, first, args, sheet);
 }
 
-// Whether the first argument is `--loads`.
-fn asks_loads(rt: &impl Env) -> bool {
+// The report, unless the first argument is `--loads`.
+fn sheet_asked(rt: &impl Env) -> Sheet {
     let mut word = [0u8; PATH_MAX];
     match console::argument(rt, 1, &mut word) {
-        Ok(n) => same(&word[..n], b"--loads"),
-        Err(_) => false,
+        Ok(n) if &word[..n] == b"--loads".as_slice() => Sheet::Pay,
+        _ => Sheet::Report,
     }
 }
 
-fn same(a: &[u8], b: &[u8]) -> bool {
-    if a.len() != b.len() {
-        return false;
+// Which argument names the first folder: that of the loads stands behind the option.
+fn first_folder(sheet: Sheet) -> usize {
+    match sheet {
+        Sheet::Report => 1,
+        Sheet::Pay => 2,
     }
-    let mut i = 0;
-    while i < a.len() {
-        if a[i] != b[i] {
-            return false;
-        }
-        i += 1;
-    }
-    true
-}
-
-// Which argument names the first folder.
-fn first_folder(pay: bool) -> usize {
-    if pay {
-        return 2;
-    }
-    1
 }
 
 // Whether one of the arguments from the first folder's on begins with `-`.
 fn has_option(rt: &impl Env, first: usize, args: usize) -> bool {
-    for i in first..args {
-        if is_option(rt, i) {
-            return true;
-        }
-    }
-    false
+    (first..args).any(|i| is_option(rt, i))
 }
 
 // Whether argument i begins with `-`. One that is too long has its first bytes here all the same.
@@ -77,45 +58,41 @@ fn is_option(rt: &impl Env, i: usize) -> bool {
 }
 
 // The folders that the arguments name, one after the other. Where there are several each text has its folder's name over it.
-fn from_all(rt: &(impl Env + Files + Print + Eprint), first: usize, args: usize, pay: bool)
+fn from_all(rt: &(impl Env + Files + Print + Eprint), first: usize, args: usize, sheet: Sheet)
     requires { first ≤ args }
 {
     let several = args - first > 1;
     for i in first..args {
-        from_argument(rt, i, pay, several);
+        from_argument(rt, i, sheet, several);
     }
 }
 
 // The folder that argument i names. A name that is too long is not cut, since what is left of it would name another folder.
-fn from_argument(rt: &(impl Env + Files + Print + Eprint), i: usize, pay: bool, several: bool) {
+fn from_argument(rt: &(impl Env + Files + Print + Eprint), i: usize, sheet: Sheet, several: bool) {
     let mut name = [0u8; PATH_MAX];
     match console::argument(rt, i, &mut name) {
-        Ok(n) => from_folder(rt, &name[..n], pay, several),
+        Ok(n) => from_folder(rt, &name[..n], sheet, several),
         Err(e) => console::fail(rt, &name, e),
     }
 }
 
 // What a folder's files come to. Where one of them cannot be read that has been said, and nothing is written. Of each there is room for one byte more than may
 // be in it, so that one which is longer is refused.
-fn from_folder(rt: &(impl Files + Print + Eprint), folder: &[u8], pay: bool, several: bool)
+fn from_folder(rt: &(impl Files + Print + Eprint), folder: &[u8], sheet: Sheet, several: bool)
     requires { length folder.now ≤ 4096 }
 {
     if !is_there(rt, folder) {
         return;
     }
     let mut image = [0u8; depot::IMAGE_LIMIT + 1];
-    let kept = file(rt, folder, b"/cab.img", &mut image);
-    if kept.failed {
+    let Some(m) = file(rt, folder, b"/cab.img", &mut image) else {
         return;
-    }
+    };
     let mut log = [0u8; logging::LIMIT + 1];
-    let logged = file(rt, folder, b"/cab.log", &mut log);
-    if logged.failed {
+    let Some(n) = file(rt, folder, b"/cab.log", &mut log) else {
         return;
-    }
-    let m = kept.count;
-    let n = logged.count;
-    show(rt, folder, &image[..m], &log[..n], pay, several);
+    };
+    show(rt, folder, &image[..m], &log[..n], sheet, several);
 }
 
 // Whether the folder can be opened, so that a file which is missing in it is known to be missing. Where it cannot, that is said.
@@ -128,9 +105,9 @@ fn is_there(rt: &(impl Files + Eprint), folder: &[u8]) -> bool {
 }
 
 // The file of that name in a folder. One that is missing counts as empty.
-fn file(rt: &(impl Files + Eprint), folder: &[u8], name: &[u8], buffer: &mut [u8]) -> Reading
+fn file(rt: &(impl Files + Eprint), folder: &[u8], name: &[u8], buffer: &mut [u8]) -> Option<usize>
     requires { length folder.now + length name.now ≤ 4104 }
-    ensures { IsPrefixLen result.count buffer.new }
+    ensures { IfSome result (λ n. IsPrefixLen n buffer.new) }
 {
     let mut path = [0u8; PATH];
     let n = join(folder, name, &mut path);
@@ -155,22 +132,15 @@ fn show(
     folder: &[u8],
     image: &[u8],
     log: &[u8],
-    pay: bool,
+    sheet: Sheet,
     several: bool,
 ) {
     let mut text = [0u8; depot::LONGEST_LOADS];
-    let t = tell(image, log, pay, &mut text);
-    let n = t.length as usize;
-    write(rt, folder, &text[..n], several);
-}
-
-fn tell(image: &[u8], log: &[u8], pay: bool, text: &mut [u8]) -> Told
-    ensures { IsPrefixLen result.length text.new }
-{
-    if pay {
-        return depot::loads(image, log, text);
-    }
-    depot::report(image, log, text)
+    let t = match sheet {
+        Sheet::Report => depot::report(image, log, &mut text),
+        Sheet::Pay => depot::loads(image, log, &mut text),
+    };
+    write(rt, folder, &text[..usize::from(t.length)], several);
 }
 
 // Writes a text. Where that fails it is said, since the text may not be whole then.
@@ -185,12 +155,12 @@ fn written(rt: &impl Print, folder: &[u8], text: &[u8], several: bool) -> io::Re
     if several {
         headed(rt, folder)?;
     }
-    console::text(rt, text)
+    rt.write_all(text)
 }
 
-// `folder NAME`.
+// `folder NAME`, with the name's own bytes, which need not be text.
 fn headed(rt: &impl Print, folder: &[u8]) -> io::Result<()> {
-    console::text(rt, b"folder ")?;
-    console::text(rt, folder)?;
-    console::text(rt, b"\n")
+    print!(rt; "folder ")?;
+    rt.write_all(folder)?;
+    println!(rt)
 }

@@ -1,7 +1,7 @@
 // Who does what: from the state and a throw of the dice, the next event, as the drivers, their displays, the radio and the pit's devices would make it.
 use super::pit;
 use nucleus::State;
-use rules::{Choice, Event, Number, Place};
+use rules::{Choice, Device, Event, Number, Place};
 use table::Thread;
 
 // The radio is the first thread.
@@ -25,37 +25,25 @@ pub fn throw(dice: u32) -> u32 {
     (dice % 65537 * 75 + 74) % 65537
 }
 
-// The next event.
+// The next event. Where nobody runs, the clock or a device goes on if somebody waits for what comes from outside; otherwise a driver signs on, since only one
+// more could wake the others.
 pub fn next(s: State, dice: u32) -> Event {
-    let c = s.choice();
-    let n = c.runs();
-    if n.0 == rules::NOBODY {
-        return idle(c, dice);
+    match s.choice() {
+        Choice::Run(n) => turn(s, n, dice),
+        Choice::Wait => outside(dice),
+        Choice::Halt | Choice::Stuck => Event::Create,
     }
-    let d = dice % TURNS;
-    if d == 0 {
-        return Event::SliceEnd;
-    }
-    if d == 1 {
-        return Event::Tick;
-    }
-    if d == 2 {
-        return signs(s, dice / TURNS % PICKED);
-    }
-    if d < 3 + INTERRUPTS {
-        return pit::raises(dice / TURNS, throw(dice / TURNS));
-    }
-    acts(s, n, dice / TURNS)
 }
 
-// Nobody runs: the clock or a device goes on where somebody waits for what comes from outside; otherwise a driver signs on, since only one more could wake
-// the others.
-fn idle(c: Choice, dice: u32) -> Event {
-    match c {
-        Choice::Run(_) => Event::SliceEnd,
-        Choice::Halt => Event::Create,
-        Choice::Wait => outside(dice),
-        Choice::Stuck => Event::Create,
+// Somebody runs.
+fn turn(s: State, n: Number, dice: u32) -> Event {
+    let rest = dice / TURNS;
+    match dice % TURNS {
+        0 => Event::SliceEnd,
+        1 => Event::Tick,
+        2 => signs(s, Place((rest % PICKED) as u8)),
+        d if d < 3 + INTERRUPTS => pit::raises(rest, throw(rest)),
+        _ => acts(s, n, rest),
     }
 }
 
@@ -69,18 +57,18 @@ fn outside(dice: u32) -> Event {
 // Is this a display: a thread that a driver started, or another display did? A driver signs on while the radio runs, or nobody.
 pub fn display(t: Thread) -> bool {
     let parent = t.parent.0;
-    (parent != rules::NOBODY) & (parent != RADIO)
+    parent != rules::NOBODY && parent != RADIO
 }
 
 // The driver at a place signs off, waiting or not, and takes along the displays that it started. At an empty place a driver signs on, or whoever runs, if it
 // is not the radio, starts a display. The radio stays, and a display goes with its driver only.
-fn signs(s: State, p: u32) -> Event {
-    let t = s.thread(Place((p % 256) as u8));
+fn signs(s: State, p: Place) -> Event {
+    let t = s.thread(p);
     let n = t.number;
     if n.0 == rules::NOBODY {
         return Event::Create;
     }
-    if (n.0 == RADIO) | display(t) {
+    if n.0 == RADIO || display(t) {
         return Event::SliceEnd;
     }
     Event::End { thread: n }
@@ -91,8 +79,7 @@ fn acts(s: State, n: Number, dice: u32) -> Event {
     if n.0 == RADIO {
         return radio(s, dice);
     }
-    let p = s.running;
-    let t = s.thread(p);
+    let t = s.thread(s.running);
     if display(t) {
         return Event::WaitClock;
     }
@@ -101,9 +88,8 @@ fn acts(s: State, n: Number, dice: u32) -> Event {
 
 // A driver's answer says what is next: the weight, where it comes from the scale. Any other, as the radio's, means that it is to be weighed again.
 fn driver(t: Thread, dice: u32) -> Event {
-    let a = t.answer;
-    if pit::weighed(a) {
-        return sends(a.word, dice);
+    if pit::weighed(t.answer) {
+        return sends(t.answer.word, dice);
     }
     weighs(dice)
 }
@@ -119,71 +105,56 @@ fn sends(weight: u32, dice: u32) -> Event {
 
 // One who was not goes to the scale. Now and then it rests, goes to a device that is none, types first, or starts a display.
 fn weighs(dice: u32) -> Event {
-    let d = dice % 16;
-    if d == 0 {
-        return Event::WaitClock;
-    }
-    if d == 1 {
-        return Event::WaitDevice {
-            device: pit::nowhere(),
-        };
-    }
-    if d < 4 {
-        return Event::WaitDevice {
-            device: pit::keypad(),
-        };
-    }
-    if d < 6 {
-        return Event::Create;
-    }
-    Event::WaitDevice {
-        device: pit::scale(),
+    match dice % 16 {
+        0 => Event::WaitClock,
+        1 => waits(pit::nowhere()),
+        2..=3 => waits(pit::keypad()),
+        4..=5 => Event::Create,
+        _ => waits(pit::scale()),
     }
 }
 
-// The radio rests, takes a load, or answers one. Where none is in its inbox it does not wait for one while a load that it took has no answer: that driver
-// might be the last who could send.
+fn waits(device: Device) -> Event {
+    Event::WaitDevice { device }
+}
+
+// The radio rests, takes a load, or answers one that it took. Where none is in its inbox it does not wait for one while a load that it took has no answer: that
+// driver might be the last who could send.
 fn radio(s: State, dice: u32) -> Event {
-    let d = dice % 6;
-    if d == 0 {
+    if dice % 6 == 0 {
         return Event::WaitClock;
     }
     let from = (dice / 6 % 256) as u8;
-    let awaiting = one_that(s, rules::AWAITING, from);
-    let sending = one_that(s, rules::SENDING, from);
-    if awaiting.0 == rules::NOBODY {
-        return Event::Receive {
-            from: Number(rules::NOBODY),
-        };
+    match one_that(s, rules::AWAITING, from) {
+        Some(awaiting) if dice % 4 != 1 || one_that(s, rules::SENDING, from).is_none() => {
+            answers(awaiting, dice)
+        }
+        _ => takes(),
     }
-    answers(awaiting, sending, dice)
 }
 
-// Somebody awaits the radio's answer, and it gives it, or takes a load more. The answer's word is the throw.
-fn answers(awaiting: Number, sending: Number, dice: u32) -> Event {
-    if dice % 4 == 1 {
-        if sending.0 != rules::NOBODY {
-            return Event::Receive {
-                from: Number(rules::NOBODY),
-            };
-        }
+// A load is taken from anyone.
+fn takes() -> Event {
+    Event::Receive {
+        from: Number(rules::NOBODY),
     }
+}
+
+// The radio's answer is the throw.
+fn answers(awaiting: Number, dice: u32) -> Event {
     Event::Reply {
         to: awaiting,
         word: dice,
     }
 }
 
-// The first thread, from a place on and round, of this standing; nobody where there is none.
-fn one_that(s: State, standing: u8, from: u8) -> Number {
-    let mut i: u8 = 0;
-    while i < PLACES {
+// The first thread, from a place on and round, of this standing.
+fn one_that(s: State, standing: u8, from: u8) -> Option<Number> {
+    for i in 0..PLACES {
         let t = s.thread(Place((from % PLACES + i) % PLACES));
         if t.standing == standing {
-            let n = t.number;
-            return n;
+            return Some(t.number);
         }
-        i += 1;
     }
-    Number(rules::NOBODY)
+    None
 }

@@ -1,8 +1,8 @@
 // The shift itself: event after event, first without a log, and then recorded; and what is counted on the way.
-use super::book::Waiters;
+use super::book::{Mark, Waiters};
 use super::{book, crew};
 use nucleus::State;
-use rules::{Event, kinds};
+use rules::Event;
 
 // The first seed from 2030 on whose shift has two at least of all that the report counts, and of each kind that it lists as waiting.
 pub const SEED: u32 = 2040;
@@ -15,7 +15,7 @@ pub const BEFORE: usize = 200;
 
 // Drivers who were weighed, and who typed; loads sent, answered, and gone because their driver signed off while they waited; displays started, and gone with
 // the driver who started them; and events that were refused.
-#[derive(Clone, Copy)]
+#[derive(Clone, Copy, Default)]
 pub struct Counts {
     pub weighed: u32,
     pub typed: u32,
@@ -36,58 +36,43 @@ pub struct Shift {
     pub position: usize,
 }
 
-// What an event adds to the counts, by those who waited before it and after.
-fn counted(mut c: Counts, kind: u8, code: u8, was: Waiters, now: Waiters) -> Counts {
-    if code != rules::codes::DONE {
-        c.refused = book::more(c.refused);
-        return c;
+impl Counts {
+    // What an event adds, by those who waited before it and after.
+    fn add(&mut self, e: Event, code: u8, was: Waiters, now: Waiters) {
+        if code != rules::codes::DONE {
+            self.refused = self.refused.wrapping_add(1);
+            return;
+        }
+        match e {
+            Event::Send { to: _, word: _ } => self.sent = self.sent.wrapping_add(1),
+            Event::Reply { to: _, word: _ } => self.answered = self.answered.wrapping_add(1),
+            Event::End { thread: _ } => {
+                self.withdrawn = left(self.withdrawn, was.loads, now.loads);
+                self.taken = left(self.taken, was.displays, now.displays);
+            }
+            Event::Create => self.started = left(self.started, now.displays, was.displays),
+            Event::Interrupt {
+                pending: _,
+                status: _,
+            } => {
+                self.weighed = left(self.weighed, was.scale, now.scale);
+                self.typed = left(self.typed, was.keypad, now.keypad);
+            }
+            _ => (),
+        }
     }
-    if kind == kinds::SEND {
-        c.sent = book::more(c.sent);
-        return c;
-    }
-    if kind == kinds::REPLY {
-        c.answered = book::more(c.answered);
-        return c;
-    }
-    if kind == kinds::END {
-        c.withdrawn = left(c.withdrawn, was.loads, now.loads);
-        c.taken = left(c.taken, was.displays, now.displays);
-        return c;
-    }
-    if kind == kinds::CREATE {
-        c.started = left(c.started, now.displays, was.displays);
-        return c;
-    }
-    if kind == kinds::INTERRUPT {
-        c.weighed = left(c.weighed, was.scale, now.scale);
-        c.typed = left(c.typed, was.keypad, now.keypad);
-        return c;
-    }
-    c
 }
 
 // The count with those who are no longer there.
 fn left(n: u32, was: u32, now: u32) -> u32 {
-    std::num::wrapping_add_u32(n, std::num::wrapping_sub_u32(was, now))
+    n.wrapping_add(was.wrapping_sub(now))
 }
 
 fn first() -> Shift {
-    let s = State::fresh();
-    let c = Counts {
-        weighed: 0,
-        typed: 0,
-        sent: 0,
-        answered: 0,
-        withdrawn: 0,
-        started: 0,
-        taken: 0,
-        refused: 0,
-    };
     Shift {
-        state: s,
+        state: State::fresh(),
         dice: crew::throw(SEED),
-        counts: c,
+        counts: Counts::default(),
         position: 0,
     }
 }
@@ -95,84 +80,59 @@ fn first() -> Shift {
 // The crew signs on.
 fn crewed() -> Shift {
     let mut s = first();
-    let mut i = 0;
-    while i <= DRIVERS {
-        s = joined(s);
-        i += 1;
+    for _ in 0..=DRIVERS {
+        s.state = s.state.create().state;
     }
-    s
-}
-
-fn joined(mut s: Shift) -> Shift {
-    let r = s.state.create();
-    let t = r.state;
-    s.state = t;
     s
 }
 
 // The shift up to the image.
 pub fn morning() -> Shift {
     let mut s = crewed();
-    let mut i = DRIVERS + 1;
-    while i < BEFORE {
+    for _ in DRIVERS + 1..BEFORE {
         s = unrecorded(s);
-        i += 1;
     }
     s
 }
 
 // What happens next.
 fn due(s: Shift) -> Event {
-    let t = s.state;
-    crew::next(t, s.dice)
+    crew::next(s.state, s.dice)
 }
 
 // The shift after an event that left a state and a code.
 fn after(s: Shift, e: Event, now: State, code: u8, position: usize) -> Shift {
-    let was = s.state;
-    let c = s.counts;
-    let counts = counted(c, e.kind(), code, book::waiting(was), book::waiting(now));
+    let mut counts = s.counts;
+    counts.add(e, code, book::waiting(s.state), book::waiting(now));
     Shift {
         state: now,
         dice: crew::throw(s.dice),
-        counts: counts,
-        position: position,
+        counts,
+        position,
     }
 }
 
 // An event without a log.
 fn unrecorded(s: Shift) -> Shift {
     let e = due(s);
-    let was = s.state;
-    let r = was.step(e);
-    let now = r.state;
-    after(s, e, now, r.code, s.position)
+    let r = s.state.step(e);
+    after(s, e, r.state, r.code, s.position)
 }
 
 // An event, recorded.
 fn recorded(s: Shift, log: &mut [u8]) -> Shift {
     let e = due(s);
-    let was = s.state;
-    let r = logging::record(was, log, s.position, e);
-    let now = r.state;
-    after(s, e, now, r.code, r.position)
+    let r = logging::record(s.state, log, s.position, e);
+    after(s, e, r.state, r.code, r.position)
 }
 
-// The rest of the shift is recorded, and what was there after each event is kept.
-pub fn rest(
-    from: Shift,
-    log: &mut [u8],
-    marks: &mut [usize],
-    kept: &mut [u8],
-    waits: &mut [u64],
-) -> Shift {
-    book::keep(from.state, from.position, 0, marks, kept, waits);
+// The rest of the shift is recorded, and what was there before the first event and after each is kept.
+pub fn rest(from: Shift, log: &mut [u8], marks: &mut [Mark; book::MARKS]) -> Shift {
     let mut s = from;
-    let mut i = 0;
-    while i < book::EVENTS {
+    for i in 0..book::EVENTS {
+        marks[i] = Mark::of(s.state, s.position);
         s = recorded(s, log);
-        i += 1;
-        book::keep(s.state, s.position, i, marks, kept, waits);
     }
+    marks[book::EVENTS] = Mark::of(s.state, s.position);
     s
 }

@@ -2,6 +2,7 @@
 // load, and each driver at the scale or the keypad, came back to its place.
 #![tactic(auto)]
 
+use book::Mark;
 use std::io;
 
 mod book;
@@ -17,19 +18,15 @@ const LOG: usize = 11 * book::EVENTS;
 fn main(rt: HostRuntime) -> io::Result<()> {
     let mut image = [0u8; image::LONGEST];
     let mut log = [0u8; LOG];
-    let mut marks = [0usize; book::MARKS];
-    let mut kept = [0u8; book::KEPT];
-    let mut waits = [0u64; book::WAITS];
     let morning = day::morning();
-    let s = morning.state;
-    let saved = image::save(s, &mut image);
-    let length = saved.length;
-    let evening = day::rest(morning, &mut log, &mut marks, &mut kept, &mut waits);
+    let saved = image::save(morning.state, &mut image);
+    let mut marks = [Mark::of(morning.state, 0); book::MARKS];
+    let evening = day::rest(morning, &mut log, &mut marks);
     let end = evening.position;
-    report::played(&rt, evening, length, end)?;
-    let image = book::front(&image, length);
-    let log = book::front(&log, end);
-    let found = cuts::all(image, log, &marks, &kept, &waits);
+    report::played(&rt, evening, saved.length, end)?;
+    let image = console::front(&image, saved.length);
+    let log = console::front(&log, end);
+    let found = cuts::all(image, log, &marks);
     report::failed(&rt, found, end)?;
     report::half(&rt, image, log)
 }

@@ -17,20 +17,17 @@ const DEVICES: u8 = lines::DEVICES as u8;
 
 // The scale is the first device of line 3.
 pub fn scale() -> Device {
-    let port = Port::Device { line: 3, device: 0 };
-    port.index()
+    Port::Device { line: 3, device: 0 }.index()
 }
 
 // The keypad is the half of the first terminal that receives.
 pub fn keypad() -> Device {
-    let port = Port::Receiver { terminal: 0 };
-    port.index()
+    Port::Receiver { terminal: 0 }.index()
 }
 
 // The other half of it. Nobody waits there.
 fn screen() -> Device {
-    let port = Port::Transmitter { terminal: 0 };
-    port.index()
+    Port::Transmitter { terminal: 0 }.index()
 }
 
 // An index that is no device's, for a driver who takes the wrong one.
@@ -40,12 +37,12 @@ pub fn nowhere() -> Device {
 
 // Does the thread wait at this device?
 pub fn waits_at(t: Thread, d: Device) -> bool {
-    (t.standing == rules::AT_DEVICE) & (t.partner.0 == d.0)
+    t.standing == rules::AT_DEVICE && t.partner.0 == d.0
 }
 
 // Is this the answer of one whose last call was to wait at the scale?
 pub fn weighed(a: Answer) -> bool {
-    (a.code == rules::codes::DONE) & (a.who.0 == rules::NOBODY) & (a.word >= LIGHTEST)
+    a.code == rules::codes::DONE && a.who.0 == rules::NOBODY && a.word >= LIGHTEST
 }
 
 // The set of one device.
@@ -94,14 +91,11 @@ pub fn raises(dice: u32, thrown: u32) -> Event {
 
 // A key is typed. Now and then nothing is pending at all, or the screen is too, which has the lower index: then nobody is served.
 fn typed(d: u32) -> Pending {
-    if d == 0 {
-        return nothing();
+    match d {
+        0 => nothing(),
+        1 => both(only(keypad()), only(screen())),
+        _ => only(keypad()),
     }
-    let key = only(keypad());
-    if d == 1 {
-        return both(key, only(screen()));
-    }
-    key
 }
 
 // A truck stands on the scale. Now and then a key is typed too, but the scale has the lower index and is served.

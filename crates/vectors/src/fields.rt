@@ -1,54 +1,20 @@
-// The fields of a vector. Two bytes say how long a field is, and it follows; one that runs past the end is not whole. A vector is a field too, of the file.
-ghost use Rattle.std.specs.Prelude.{◌≤◌, ◌<◌, length};
-ghost use Rattle.vectors.specs.Within.{Within};
+// The fields of a vector. Two bytes say how long a field is, and it follows. A vector is a field too, of the file.
+ghost use Rattle.std.specs.Prelude.{◌≡◌, ◌+◌, length, IfSome};
 
-#[derive(Drop)]
-pub struct Field {
-    pub start: usize,
-    pub end: usize,
-    pub whole: bool,
-}
-
-pub fn field_at(bytes: &[u8], at: usize) -> Field
-    requires { at ≤ length bytes.now }
-    ensures { Within bytes.now at result }
+// The field at the start of the bytes, and what follows it; none where it is not all there. What follows is shorter than the bytes, so whoever goes from field
+// to field comes to the end.
+pub fn split(bytes: &[u8]) -> Option<(&[u8], &[u8])>
+    ensures { IfSome result (λ parts. 2 + length parts.0.now + length parts.1.now ≡ length bytes.now) }
 {
-    let all = bytes.len();
-    if all < 2 {
-        return Field {
-            start: all,
-            end: all,
-            whole: false,
-        };
-    }
-    if at > all - 2 {
-        return Field {
-            start: all,
-            end: all,
-            whole: false,
-        };
-    }
-    let start = at + 2;
-    let n = wide(bytes[at]) + 256 * wide(bytes[at + 1]);
-    if n > all - start {
-        return Field {
-            start: start,
-            end: all,
-            whole: false,
-        };
-    }
-    Field {
-        start: start,
-        end: start + n,
-        whole: true,
-    }
+    let (size, rest) = bytes.split_first_chunk::<2>()?;
+    rest.split_at_checked(usize::from(u16::from_le_bytes(*size)))
 }
 
 pub fn first(vector: &[u8]) -> &[u8] {
-    let f = field_at(vector, 0);
-    let a = f.start;
-    let b = f.end;
-    &vector[a..b]
+    match split(vector) {
+        Some((field, _)) => field,
+        None => &[],
+    }
 }
 
 pub fn second(vector: &[u8]) -> &[u8] {
@@ -61,26 +27,16 @@ pub fn third(vector: &[u8]) -> &[u8] {
 
 // What follows the first field.
 fn behind(vector: &[u8]) -> &[u8] {
-    let f = field_at(vector, 0);
-    let b = f.end;
-    &vector[b..]
+    match split(vector) {
+        Some((_, rest)) => rest,
+        None => &[],
+    }
 }
 
 // A number of four bytes, little-endian; 0 where they are not all there.
 pub fn number_at(field: &[u8], at: usize) -> usize {
-    let all = field.len();
-    if all < 4 {
-        return 0;
-    }
-    if at > all - 4 {
-        return 0;
-    }
-    wide(field[at])
-        + 256 * (wide(field[at + 1]) + 256 * (wide(field[at + 2]) + 256 * wide(field[at + 3])))
-}
-
-fn wide(x: u8) -> usize
-    ensures { result < 256 }
-{
-    x as usize
+    field
+        .get(at..)
+        .and_then(|rest| rest.first_chunk::<4>())
+        .map_or(0, |bytes| u32::from_le_bytes(*bytes) as usize)
 }

@@ -1,7 +1,7 @@
 // Runs outside vectors: a line for each says its kind and what is answered. vectors FILE: needs a file of vectors, crates/vectors/data/vectors or one like it.
 #![tactic(auto)]
 
-ghost use Rattle.std.specs.Prelude.{◌≡◌, ◌≤◌, ◌<◌, IfOk, length};
+ghost use Rattle.std.specs.Prelude.{◌≡◌, length};
 
 use std::io;
 use std::rt::{Env, Files};
@@ -15,22 +15,40 @@ mod replays;
 mod reports;
 
 // The kinds of vectors, as vectors/make.py has them.
-const LOAD: u8 = 1;
+#[derive(Clone, Copy)]
+enum Kind {
+    Load,
+    Replay,
+    Record,
+    Reader,
+    Depot,
+}
 
-const REPLAY: u8 = 2;
+// A byte that names no kind.
+#[derive(Clone, Copy)]
+struct UnknownKind;
 
-const RECORD: u8 = 3;
+impl TryFrom<u8> for Kind {
+    type Error = UnknownKind;
 
-const READER: u8 = 4;
-
-const DEPOT: u8 = 5;
+    fn try_from(byte: u8) -> Result<Self, UnknownKind> {
+        match byte {
+            1 => Ok(Kind::Load),
+            2 => Ok(Kind::Replay),
+            3 => Ok(Kind::Record),
+            4 => Ok(Kind::Reader),
+            5 => Ok(Kind::Depot),
+            _ => Err(UnknownKind),
+        }
+    }
+}
 
 // A file of vectors is no longer than this: a third more than what vectors/make.py makes of its tables.
 const ROOM: usize = 524288;
 
 fn main(rt: HostRuntime) -> io::Result<()> {
     if console::arg_count(&rt) != 2 {
-        console::complain(&rt, b"usage: vectors FILE (crates/vectors/data/vectors)\n");
+        console::complain(&rt, "usage: vectors FILE (crates/vectors/data/vectors)\n");
         return Ok(());
     }
     from_file(&rt)
@@ -50,61 +68,45 @@ fn blank() -> [u8; ROOM + 1]
 
 // The file's vectors, where the buffer has room for it. It has room for one byte more than may be in it.
 fn lent(rt: &(impl Env + Files + Print + Eprint), buffer: &mut [u8]) -> io::Result<()> {
-    let got = console::file(rt, 1, buffer);
-    if got.failed {
+    let Some(n) = console::file(rt, 1, buffer) else {
         return Ok(());
-    }
-    let n = got.count;
+    };
     if n > ROOM {
         console::complain(
             rt,
-            b"vectors: the file is longer than there is room for (ROOM in crates/vectors/src/main.rt)\n",
+            "vectors: the file is longer than there is room for (ROOM in crates/vectors/src/main.rt)\n",
         );
         return Ok(());
     }
     all(rt, &buffer[..n])
 }
 
-// The vectors, one after the other.
+// The vectors, one after the other: a byte for the kind, and a field. Behind a kind that nobody knows nothing can be believed, so that ends them.
 fn all(rt: &(impl Print + Eprint), bytes: &[u8]) -> io::Result<()> {
-    let mut at = 0;
-    while at < bytes.len() {
-        at = one(rt, bytes, at)?;
+    let mut left = bytes;
+    while let Some((byte, rest)) = left.split_first() {
+        let Some((vector, behind)) = fields::split(rest) else {
+            console::complain(rt, "vectors: the file ends inside a vector\n");
+            return Ok(());
+        };
+        let Ok(kind) = Kind::try_from(*byte) else {
+            console::complain(rt, "vectors: a vector is of no known kind\n");
+            return Ok(());
+        };
+        run(rt, kind, vector)?;
+        left = behind;
     }
     Ok(())
 }
 
-// The vector at a position, and where the next one is. Behind a kind that nobody knows nothing can be believed, so there is no next one.
-fn one(rt: &(impl Print + Eprint), bytes: &[u8], at: usize) -> io::Result<usize>
-    requires { at < length bytes.now }
-    ensures { IfOk result (λ next. (at < next) × (next ≤ length bytes.now)) }
-{
-    let vector = fields::field_at(bytes, at + 1);
-    if !vector.whole {
-        console::complain(rt, b"vectors: the file ends inside a vector\n");
-        return Ok(bytes.len());
-    }
-    let a = vector.start;
-    let b = vector.end;
-    if !run(rt, bytes[at], &bytes[a..b])? {
-        return Ok(bytes.len());
-    }
-    Ok(b)
-}
-
-// The line of a vector. Whether its kind is known; where it is not, that is said.
-fn run(rt: &(impl Print + Eprint), kind: u8, vector: &[u8]) -> io::Result<bool> {
+// The line of a vector.
+fn run(rt: &impl Print, kind: Kind, vector: &[u8]) -> io::Result<()> {
     match kind {
-        LOAD => loads::run(rt, vector)?,
-        REPLAY => replays::run(rt, vector)?,
-        RECORD => records::run(rt, vector)?,
-        READER => readings::run(rt, vector)?,
-        DEPOT => reports::run(rt, vector)?,
-        _ => {
-            console::complain(rt, b"vectors: a vector is of no known kind\n");
-            return Ok(false);
-        }
+        Kind::Load => loads::run(rt, vector)?,
+        Kind::Replay => replays::run(rt, vector)?,
+        Kind::Record => records::run(rt, vector)?,
+        Kind::Reader => readings::run(rt, vector)?,
+        Kind::Depot => reports::run(rt, vector)?,
     }
-    console::text(rt, b"\n")?;
-    Ok(true)
+    println!(rt)
 }

@@ -1,10 +1,11 @@
 // Vectors of the reader: a log, and a position from which it is read once. The line says the code, the record's bytes and the position then.
 use crate::fields;
+use console::Hex;
 use journal::Read;
 use std::io;
 
 pub fn run(rt: &impl Print, vector: &[u8]) -> io::Result<()> {
-    console::text(rt, b"reader ")?;
+    print!(rt; "reader ")?;
     reading(
         rt,
         fields::first(vector),
@@ -14,29 +15,15 @@ pub fn run(rt: &impl Print, vector: &[u8]) -> io::Result<()> {
 
 fn reading(rt: &impl Print, log: &[u8], at: usize) -> io::Result<()> {
     let r = reader::read_from(log, at);
-    let got = r.got;
-    let next = r.at;
-    console::say(rt, got.code() as u64, b" ")?;
-    bytes_of(rt, got, log, at, next)?;
-    console::text(rt, b" ")?;
-    console::number(rt, next as u64)
+    print!(rt; "{} ", r.got.code())?;
+    record(rt, r.got, log, at)?;
+    print!(rt; " {}", r.at)
 }
 
-// The bytes of the record that was read, from a position to the next, or `-` where none was.
-fn bytes_of(rt: &impl Print, got: Read, log: &[u8], at: usize, next: usize) -> io::Result<()> {
-    let Read::Record { event: _, next: _ } = got else {
-        return console::text(rt, b"-");
+// The bytes of the record that was read at a position, or `-` where none was.
+fn record(rt: &impl Print, got: Read, log: &[u8], at: usize) -> io::Result<()> {
+    let Read::Record { event: _, next } = got else {
+        return print!(rt; "-");
     };
-    record(rt, log, at, next)
-}
-
-// The bytes from a position to the next.
-fn record(rt: &impl Print, log: &[u8], at: usize, next: usize) -> io::Result<()> {
-    if next > log.len() {
-        return Ok(());
-    }
-    if at > next {
-        return Ok(());
-    }
-    console::hex(rt, &log[at..next])
+    print!(rt; "{}", Hex(log.get(at..next).unwrap_or(&[])))
 }

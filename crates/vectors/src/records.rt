@@ -3,6 +3,7 @@
 ghost use Rattle.std.specs.Prelude.{◌≤◌};
 
 use crate::{buffers, fields};
+use console::{Chosen, ImageOf};
 use journal::Read;
 use nucleus::State;
 use rules::Event;
@@ -12,7 +13,7 @@ use std::io;
 const ROOM: usize = 40000;
 
 pub fn run(rt: &impl Print, vector: &[u8]) -> io::Result<()> {
-    console::text(rt, b"record ")?;
+    print!(rt; "record ")?;
     tried(
         rt,
         fields::first(vector),
@@ -23,15 +24,14 @@ pub fn run(rt: &impl Print, vector: &[u8]) -> io::Result<()> {
 
 // The event of a record, recorded in the state of an image. The sizes are the log's room, the byte that it is full of, and the start.
 fn tried(rt: &impl Print, image: &[u8], sizes: &[u8], written: &[u8]) -> io::Result<()> {
-    let from = image::load(image);
-    let s = from.state;
+    let s = image::load(image).state;
     let got = journal::read_at(written, 0);
     let Read::Record { event, next: _ } = got else {
-        return console::text(rt, b"no record");
+        return print!(rt; "no record");
     };
     let room = fields::number_at(sizes, 0);
     if room > ROOM {
-        return console::text(rt, b"no room");
+        return print!(rt; "no room");
     }
     logged(
         rt,
@@ -68,16 +68,14 @@ fn recorded(
     start: usize,
 ) -> io::Result<()> {
     let r = logging::record(s, log, start, e);
-    let choice = r.choice;
-    let after = r.state;
-    let position = r.position;
-    console::say(rt, r.code as u64, b" ")?;
-    console::choice(rt, choice)?;
-    console::text(rt, b" ")?;
-    console::say(rt, r.number.0 as u64, b" ")?;
-    console::say(rt, position as u64, b" ")?;
-    console::image_of(rt, after)?;
-    console::text(rt, b" ")?;
-    buffers::wrote(rt, log, start, position)?;
-    buffers::kept(rt, log, fill, start, position)
+    print!(rt;
+        "{} {} {} {} {} ",
+        r.code,
+        Chosen(r.choice),
+        r.number.0,
+        r.position,
+        ImageOf(r.state)
+    )?;
+    buffers::wrote(rt, log, start, r.position)?;
+    buffers::kept(rt, log, fill, start, r.position)
 }

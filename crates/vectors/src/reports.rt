@@ -9,7 +9,7 @@ use std::io;
 const ROOM: usize = 4096;
 
 pub fn run(rt: &impl Print, vector: &[u8]) -> io::Result<()> {
-    console::text(rt, b"depot ")?;
+    print!(rt; "depot ")?;
     tried(
         rt,
         fields::first(vector),
@@ -22,7 +22,7 @@ pub fn run(rt: &impl Print, vector: &[u8]) -> io::Result<()> {
 fn tried(rt: &impl Print, image: &[u8], log: &[u8], sizes: &[u8]) -> io::Result<()> {
     let room = fields::number_at(sizes, 0);
     if room > ROOM {
-        return console::text(rt, b"no room");
+        return print!(rt; "no room");
     }
     lent(rt, image, log, room, buffers::fill_of(sizes))
 }
@@ -38,9 +38,8 @@ fn lent(rt: &impl Print, image: &[u8], log: &[u8], room: usize, fill: u8) -> io:
 // `CODE LENGTH TEXT kept`.
 fn reported(rt: &impl Print, image: &[u8], log: &[u8], out: &mut [u8], fill: u8) -> io::Result<()> {
     let t = depot::report(image, log, out);
-    let n = t.length as usize;
-    console::say(rt, t.code as u64, b" ")?;
-    console::say(rt, n as u64, b" ")?;
+    let n = usize::from(t.length);
+    print!(rt; "{} {n} ", t.code)?;
     buffers::wrote(rt, out, 0, n)?;
     buffers::kept(rt, out, fill, 0, n)
 }

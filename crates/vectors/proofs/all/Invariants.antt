@@ -1,6 +1,6 @@
--- Each vector moves on, within the bytes.
-use Rattle.std.proofs.Common.{length, ◌-◌}
+-- Each vector leaves fewer bytes.
+use Rattle.std.proofs.Common.{length}
 use Rattle.vectors.proofs.all.Given as goal
 
-abbrev pub decreases-loop-at : goal.decreases-loop-at
-decreases-loop-at g l = length l.bytes - l.at
+abbrev pub decreases-loop-byte : goal.decreases-loop-byte
+decreases-loop-byte g l = length l.left

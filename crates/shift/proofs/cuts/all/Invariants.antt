@@ -1,6 +1,6 @@
--- So many cuts are left.
-use Rattle.std.proofs.Common.{length, ◌-◌}
+-- There is a mark behind the whole records.
+use Rattle.std.proofs.Common.{length, ◌<◌}
 use Rattle.shift.proofs.cuts.all.Given as goal
 
-abbrev pub decreases-loop-k : goal.decreases-loop-k
-decreases-loop-k l = length l.log - l.k
+abbrev pub invariant-loop-k : goal.invariant-loop-k
+invariant-loop-k l = l.i < length l.marks

@@ -1,9 +1,0 @@
--- The bytes run out, and the other ones are as many.
-use Rattle.std.proofs.Common.{length, ◌-◌, ◌≡◌}
-use Rattle.depot_main.proofs.same.Given as goal
-
-abbrev pub invariant-loop-i : goal.invariant-loop-i
-invariant-loop-i l = length l.a ≡ length l.b
-
-abbrev pub decreases-loop-i : goal.decreases-loop-i
-decreases-loop-i l = length l.a - l.i

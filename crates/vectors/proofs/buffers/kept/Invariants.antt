@@ -1,6 +1,0 @@
--- The bytes run out.
-use Rattle.std.proofs.Common.{length, ◌-◌}
-use Rattle.vectors.proofs.buffers.kept.Given as goal
-
-abbrev pub decreases-loop-i : goal.decreases-loop-i
-decreases-loop-i g l = length l.buffer - l.i
