@@ -31,11 +31,9 @@ abbrev pub Answers : State → Event → Reply → Type 0
 Answers s e r = Looked s (Meets (outcome e (view s)) r) (r ≡ inconsistent s)
 
 -- what the cores have done is what the rules say
-pub meets : {s st : State} {d : Desk} {b w l : List ℕ} {o : Ended} (e : Event) (x : Choice) → d ≡ desk_of s → Ran d s.blocks s.words s.lines e o b w l
-    → ((v : List ℕ) → x ≡ choice (shown o.desk b v l)) → st ≡ laid o.desk b w l → Meets (outcome e (view s)) (record { state = st; code = o.code; choice = x; number = o.number })
-meets {s} {w = w} {o = o} e x z t f y =
-    let u : Ran (desk_of s) s.blocks s.words s.lines e o _ w _ = rw z at t in
-    rw y (record { state = record { consists = u.stands; seen = u.seen }; code = u.code; choice = f w ∙ ap choice u.seen; number = u.number })
+pub meets : {s : State} {a : Arrays} {o : Ended} (e : Event) (x : Choice) → RanIn s.desk s.arrays e o a
+    → ((v : List ℕ) → x ≡ choice (shown o.desk a.table.blocks v a.lines)) → Meets (outcome e (view s)) (record { state = record { desk = o.desk; arrays = a }; code = o.code; choice = x; number = o.number })
+meets {a = a} e x u f = record { state = record { consists = u.stands; seen = u.seen }; code = u.code; choice = f a.table.words ∙ ap choice u.seen; number = u.number }
 
 -- two replies to one outcome are equal
 pub meets_one : {o : Outcome} {r t : Reply} → Meets o r → Meets o t → r ≡ t

@@ -26,10 +26,13 @@ settled s t a b e =
     let eb = same_blocks a.whole b.whole e in
     let ew = same_words a.whole b.whole e in
     let el = same_lines a.whole b.whole e in
-    let ef : s.filled ≡ t.filled = a.filled ∙ ap (λ (x : List ℕ). word_of places (stands_at x)) eb ∙ sym b.filled in
-    let ey : s.last.0 ≡ t.last.0 = ap (λ (m : Model.Model). m.last) e in
-    let ex : s.running.0 ≡ t.running.0 = ap (λ (m : Model.Model). m.running) e in
-    λ i. record { filled = ef i; last = record { 0 = ey i }; running = record { 0 = ex i }; blocks = eb i; words = ew i; lines = el i }
+    let ef : s.desk.filled ≡ t.desk.filled = a.filled ∙ ap (λ (x : List ℕ). word_of places (stands_at x)) eb ∙ sym b.filled in
+    let ey : s.desk.last.0 ≡ t.desk.last.0 = ap (λ (m : Model.Model). m.last) e in
+    let ex : s.desk.running.0 ≡ t.desk.running.0 = ap (λ (m : Model.Model). m.running) e in
+    λ i. record {
+      desk = record { filled = ef i; last = record { 0 = ey i }; running = record { 0 = ex i } };
+      arrays = record { table = record { blocks = eb i; words = ew i }; lines = el i };
+    }
 
 -- and so is what shows a model
 pub shows_one : {strict : Bool} {s t : State} {m : Model.Model} → ShowsBy strict s m → ShowsBy strict t m → s ≡ t
@@ -48,7 +51,7 @@ abbrev as_model : List Model.Thread → List (List ℕ) → Model.Model
 as_model t q = record { last = last_number; running = none; threads = t; lines = q }
 
 pub fresh_shows : {b w l : List ℕ} → Emptied b w places → Clear places line_count l
-    → Shows (record { filled = 0; last = record { 0 = last_number }; running = record { 0 = none }; blocks = b; words = w; lines = l }) fresh
+    → Shows (laid (record { filled = 0; last = record { 0 = last_number }; running = record { 0 = none } }) b w l) fresh
 fresh_shows {b} {w} {l} k c = record {
   consists = record {
     whole = record { blocks = k.sized.blocks; words = k.sized.words; lines = c.tidy };

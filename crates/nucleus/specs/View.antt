@@ -1,24 +1,21 @@
 -- The state, as the rules see it, and what the public operations promise of any state whatever.
 use Rattle.std.specs.Prelude.{◌≡◌, List, Bool, true, ℕ}
 use Rattle.rules.specs.Model.{Model}
-use Rattle.table.specs.Cells.{shown, StandsBy}
+use Rattle.table.specs.Cells.{shown_in, StandsByIn}
 use Rattle.table.specs.declared.Desk.{Desk}
 use Rattle.nucleus.specs.declared.State.{State}
 
-abbrev pub desk_of : State → Desk
-desk_of s = record { filled = s.filled; last = s.last; running = s.running }
-
 abbrev pub laid : Desk → List ℕ → List ℕ → List ℕ → State
-laid d b w l = record { filled = d.filled; last = d.last; running = d.running; blocks = b; words = w; lines = l }
+laid d b w l = record { desk = d; arrays = record { table = record { blocks = b; words = w }; lines = l } }
 
 -- the model that a state stands for
 abbrev pub view : State → Model
-view s = shown (desk_of s) s.blocks s.words s.lines
+view s = shown_in s.desk s.arrays
 
 -- The state is consistent: of a consistent model, with tidy lines, clean values, and the filled set that of the live threads. By the rules as they are, or
 -- (strict is false) by the old ones.
 abbrev pub ConsistsBy : Bool → State → Type 0
-ConsistsBy strict s = StandsBy strict (desk_of s) s.blocks s.words s.lines
+ConsistsBy strict s = StandsByIn strict s.desk s.arrays
 
 abbrev pub Consists : State → Type 0
 Consists s = ConsistsBy true s

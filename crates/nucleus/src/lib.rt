@@ -10,25 +10,22 @@ ghost use Rattle.rules.specs.Rules.{fresh as freshModel, choice as chosen, empty
 ghost use Rattle.rules.specs.declared.Choice.{Choice};
 ghost use Rattle.rules.specs.declared.Choice.TheVariants.{Halt};
 ghost use Rattle.table.specs.Cells.{as_thread};
-ghost use Rattle.nucleus.specs.View.{view, desk_of, laid, Consists, Shows, Looked};
+ghost use Rattle.nucleus.specs.View.{view, Consists, Shows, Looked};
 ghost use Rattle.rules.specs.declared.Event.TheVariants.{Create, Send, Receive, Reply as ReplyTo, End, WaitClock, SliceEnd, Tick, WaitDevice, Interrupt};
 ghost use Rattle.nucleus.specs.Answers.{Meets, Answers};
 
-use lines::Links;
 use rules::{Choice, Device, Event, Number, Pending, Place, codes};
-use table::{Blocks, Desk, Thread, Words};
+use table::{Arrays, Desk, Table, Thread};
 
-#[derive(Clone, Copy)]
+// The desk and the arrays. Any may come: what is consistent is tested.
+#[derive(Clone, Copy, PartialEq, Eq)]
 pub struct State {
-    pub filled: u64,
-    pub last: Number,
-    pub running: Place,
-    pub blocks: Blocks,
-    pub words: Words,
-    pub lines: Links,
+    pub desk: Desk,
+    pub arrays: Arrays,
 }
 
-// What an event answers: the next state, with a code and the choice, and the number given to a new thread.
+// What an event answers: the next state, with a code and the choice, and the number given to a new thread. The code stands beside the state since a refusal
+// hands a state back too.
 #[derive(Clone, Copy)]
 pub struct Reply {
     pub state: State,
@@ -42,46 +39,21 @@ impl State {
     pub fn fresh() -> State
         ensures { Shows result freshModel }
     {
-        let mut b = [0u8; table::BYTES];
-        let mut w = [0u32; table::WORDS];
-        table::clear(&mut b, &mut w);
-        let l = lines::fresh();
+        let mut table = Table {
+            blocks: [0; table::BYTES],
+            words: [0; table::WORDS],
+        };
+        table.clear();
         State {
-            filled: 0,
-            last: Number(rules::LAST_NUMBER),
-            running: Place(lines::NONE),
-            blocks: b,
-            words: w,
-            lines: l,
-        }
-    }
-
-    // What is not in the arrays.
-    pub fn desk(self) -> Desk
-        ensures { result ≡ desk_of self }
-    {
-        let last = self.last;
-        let running = self.running;
-        Desk {
-            filled: self.filled,
-            last: last,
-            running: running,
-        }
-    }
-
-    // The state of a desk and the arrays.
-    pub fn lay(d: Desk, b: Blocks, w: Words, l: Links) -> State
-        ensures { result ≡ laid d b w l }
-    {
-        let last = d.last;
-        let running = d.running;
-        State {
-            filled: d.filled,
-            last: last,
-            running: running,
-            blocks: b,
-            words: w,
-            lines: l,
+            desk: Desk {
+                filled: 0,
+                last: Number(rules::LAST_NUMBER),
+                running: Place(lines::NONE),
+            },
+            arrays: Arrays {
+                table,
+                lines: lines::fresh(),
+            },
         }
     }
 
@@ -89,11 +61,7 @@ impl State {
     pub fn consistent(self) -> bool
         ensures { Tells result (Consists self) (Consists self → ⊥) }
     {
-        let d = self.desk();
-        let b = self.blocks;
-        let w = self.words;
-        let l = self.lines;
-        audit::consistent(&b, &w, &l, d)
+        audit::consistent(&self.arrays, self.desk)
     }
 
     // The choice of a state that was tested.
@@ -101,10 +69,7 @@ impl State {
         requires { Consists self }
         ensures { result ≡ chosen (view self) }
     {
-        let d = self.desk();
-        let b = self.blocks;
-        let l = self.lines;
-        table::choose(&b, &l, d)
+        table::choose(&self.arrays, self.desk)
     }
 
     // Who runs next, or why nobody does. Halt where the state is not consistent.
@@ -124,7 +89,7 @@ impl State {
         if !self.consistent() {
             return 0;
         }
-        filled::count(self.filled)
+        filled::count(self.desk.filled)
     }
 
     // The lowest empty place. None where all are filled, or the state is not consistent.
@@ -134,7 +99,7 @@ impl State {
         if !self.consistent() {
             return Place(lines::NONE);
         }
-        let p = filled::lowest(self.filled);
+        let p = filled::lowest(self.desk.filled);
         if p as usize >= lines::PLACES {
             return Place(lines::NONE);
         }
@@ -151,9 +116,7 @@ impl State {
         if p.0 as usize >= lines::PLACES {
             return table::vacancy();
         }
-        let b = self.blocks;
-        let w = self.words;
-        table::read(&b, &w, p)
+        self.arrays.table.read(p)
     }
 
     // The event e happens to a state that was tested.
@@ -161,20 +124,17 @@ impl State {
         requires { Consists self }
         ensures { Meets (outcome e (view self)) result }
     {
-        let d = self.desk();
-        let mut b = self.blocks;
-        let mut w = self.words;
-        let mut l = self.lines;
-        let r = threads::run(&mut b, &mut w, &mut l, d, e);
-        let x = r.desk;
-        let n = r.number;
-        let choice = table::choose(&b, &l, x);
-        let s = State::lay(x, b, w, l);
+        let mut arrays = self.arrays;
+        let r = threads::run(&mut arrays, self.desk, e);
+        let state = State {
+            desk: r.desk,
+            arrays,
+        };
         Reply {
-            state: s,
+            state,
             code: r.code,
-            choice: choice,
-            number: n,
+            choice: table::choose(&arrays, r.desk),
+            number: r.number,
         }
     }
 
@@ -204,28 +164,28 @@ impl State {
     pub fn send(self, to: Number, word: u32) -> Reply
         ensures { Answers self (Send to word) result }
     {
-        self.step(Event::Send { to: to, word: word })
+        self.step(Event::Send { to, word })
     }
 
     // Event 3: the running thread receives, from a number or from any.
     pub fn receive(self, from: Number) -> Reply
         ensures { Answers self (Receive from) result }
     {
-        self.step(Event::Receive { from: from })
+        self.step(Event::Receive { from })
     }
 
     // Event 4: the running thread replies.
     pub fn reply(self, to: Number, word: u32) -> Reply
         ensures { Answers self (ReplyTo to word) result }
     {
-        self.step(Event::Reply { to: to, word: word })
+        self.step(Event::Reply { to, word })
     }
 
     // Event 5: a thread ends, with all that it started.
     pub fn end(self, thread: Number) -> Reply
         ensures { Answers self (End thread) result }
     {
-        self.step(Event::End { thread: thread })
+        self.step(Event::End { thread })
     }
 
     // Event 6: the running thread waits for the clock.
@@ -253,7 +213,7 @@ impl State {
     pub fn wait_device(self, device: Device) -> Reply
         ensures { Answers self (WaitDevice device) result }
     {
-        self.step(Event::WaitDevice { device: device })
+        self.step(Event::WaitDevice { device })
     }
 
     // Event 10: devices raise an interrupt, and the first of them is served.
@@ -261,8 +221,8 @@ impl State {
         ensures { Answers self (Interrupt pending status) result }
     {
         self.step(Event::Interrupt {
-            pending: pending,
-            status: status,
+            pending,
+            status,
         })
     }
 }

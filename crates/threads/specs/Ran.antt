@@ -11,6 +11,7 @@ use Rattle.order.proofs.Keeps.{acts}
 use Rattle.order.specs.Lives.{lives_now}
 use Rattle.order.proofs.Lives.{lives}
 use Rattle.table.specs.Cells.{shown, stands_at, Filled, Stands}
+use Rattle.table.specs.declared.Arrays.{Arrays}
 use Rattle.table.specs.declared.Desk.{Desk}
 use Rattle.verbs.specs.Steps.{Turns}
 use Rattle.events.specs.Events.{Did, lives_shown}
@@ -22,6 +23,10 @@ pub record Ran (d : Desk) (b w l : List ℕ) (e : Event) (r : Outcome) (b' w' l'
   pub seen : shown r.desk b' w' l' ≡ next e (shown d b w l)
   pub code : r.code ≡ refusal e (shown d b w l)
   pub number : r.number.0 ≡ given e (shown d b w l)
+
+-- the same of the arrays as they are lent
+abbrev pub RanIn : Desk → Arrays → Event → Outcome → Arrays → Type 0
+RanIn d a e r a' = Ran d a.table.blocks a.table.words a.lines e r a'.table.blocks a'.table.words a'.lines
 
 -- the same event by another name
 pub same_event : {d : Desk} {b w l : List ℕ} {e f : Event} {r : Outcome} {b' w' l' : List ℕ} → e ≡ f → Did d b w l f r b' w' l' → Did d b w l e r b' w' l'
