@@ -1,17 +1,31 @@
 -- Events 6, 7 and 8: wait for the clock, slice end, tick.
-use Rattle.std.specs.Prelude.{◌≡◌, refl, List, [], ◌∷◌, ◌++◌, ℕ, ◌<◌}
+use Rattle.std.specs.Prelude.{◌≡◌, refl, List, [], ◌∷◌, ◌++◌, Option, Some, ℕ, ◌<◌}
 use Rattle.std.proofs.Common.{sym, ◌∙◌, arith, eq-eqb, ne_eqb, get_or-set_other}
 use Rattle.lists.specs.Lists.{none}
-use Rattle.rules.specs.Values.{nobody}
-use Rattle.rules.specs.Model.{Model, ready, clock, line}
+use Rattle.lines.specs.Lines.{line_of, Loose}
+use Rattle.rules.specs.Values.{nobody, place_known}
+use Rattle.rules.specs.Known.{a_place}
+use Rattle.rules.specs.declared.Place.{Place}
+use Rattle.rules.specs.Model.{places, line_count, Model, ready, clock, line}
 use Rattle.rules.specs.Rules.{relined, woken, readied, rung, act}
 use Rattle.rules.specs.declared.Event.TheVariants.{WaitClock, SliceEnd, Tick}
-use Rattle.table.specs.Cells.{shown, Stands}
+use Rattle.table.specs.Cells.{shown, Stands, running}
 use Rattle.table.specs.declared.Desk.{Desk}
 use Rattle.events.specs.declared.Outcome.{Outcome}
-use Rattle.verbs.specs.Steps.{Steps, Turns, running, stays, turns}
+use Rattle.verbs.specs.Caller.{caller_place, caller_loose}
+use Rattle.verbs.specs.Steps.{Steps, Turns, stays, turns}
 use Rattle.events.specs.Events.{Did, answered, refused, done, no_word}
 use Rattle.life.specs.Drain.{drained, drains, Spares}
+
+-- the caller, who runs at p and stands in no line
+pub record Calls (d : Desk) (l : List ℕ) (p : ℕ) : Type 0 where
+  pub is : p ≡ d.running.0
+  pub busy : d.running.0 ≡ none → ⊥
+  pub place : p < places
+  pub loose : Loose line_count (line_of places l) p
+
+pub calls : {d : Desk} {b w l : List ℕ} → Stands d b w l → {o : Option Place} → o ≡ place_known d.running.0 → {p : Place} → o ≡ Some p → Calls d l p.0
+calls k e f = let z = a_place e f in record { is = z.0; busy = z.1; place = rw z.0 (caller_place k z.1); loose = rw z.0 (caller_loose k z.1) }
 
 -- ---- 6
 

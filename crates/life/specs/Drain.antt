@@ -10,6 +10,7 @@ use Rattle.rules.specs.Model.{places, line_count, Model, line}
 use Rattle.rules.specs.Rules.{relined}
 use Rattle.table.specs.Cells.{model_of, Whole}
 use Rattle.table.specs.Rows.{line_at}
+use Rattle.table.specs.declared.Arrays.{Arrays}
 use Rattle.verbs.specs.Steps.{Steps, then}
 use Rattle.verbs.specs.Verbs.{popped, nobody_there, somebody}
 
@@ -32,6 +33,10 @@ pub record One (g : ℕ → Model → Model) (q : ℕ) (b w l b' w' l' : List �
 pub record First (g : ℕ → Model → Model) (q : ℕ) (b w l b' w' l' : List ℕ) (r : Bool) : Type 0 where
   pub some : r ≡ true → (p : ℕ) × (ps : List ℕ) × One g q b w l b' w' l' p ps
   pub none : r ≡ false → (line_of places l q ≡ []) × Steps b w l b' w' l' (λ m. m)
+
+-- the same of the arrays as they are lent
+abbrev pub FirstIn : (ℕ → Model → Model) → ℕ → Arrays → Arrays → Bool → Type 0
+FirstIn g q a a' r = First g q a.table.blocks a.table.words a.lines a'.table.blocks a'.table.words a'.lines r
 
 -- what g does to p leaves line q as it is
 abbrev pub Spares : (ℕ → Model → Model) → ℕ → Type 0
@@ -71,6 +76,9 @@ module _ (g : ℕ → Model → Model) {q : ℕ} (h : q < line_count) {b w l l�
 pub record Draining (g : ℕ → Model → Model) (q : ℕ) (b w l b' w' l' : List ℕ) : Type 0 where
   pub whole : Whole b' w' l'
   pub goes : (y x : ℕ) → drained g q (line_of places l q) (model_of y x b w l) ≡ drained g q (line_of places l' q) (model_of y x b' w' l')
+
+abbrev pub DrainingIn : (ℕ → Model → Model) → ℕ → Arrays → Arrays → Type 0
+DrainingIn g q a a' = Draining g q a.table.blocks a.table.words a.lines a'.table.blocks a'.table.words a'.lines
 
 pub drain_start : {g : ℕ → Model → Model} {q : ℕ} {b w l : List ℕ} → Whole b w l → Draining g q b w l b w l
 drain_start k = record { whole = k; goes = λ y x. refl }

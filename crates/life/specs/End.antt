@@ -12,13 +12,14 @@ use Rattle.table.specs.Cells.{cell, thread_of, shown, Whole, inbox_lines, inbox_
 use Rattle.table.specs.Rows.{thread_at}
 use Rattle.table.specs.Stores.{Stored}
 use Rattle.table.specs.Clean.{emptied}
+use Rattle.table.specs.declared.Arrays.{Arrays}
 use Rattle.table.specs.declared.Desk.{Desk}
 use Rattle.verbs.specs.Steps.{Steps, Turns, wrote}
 use Rattle.verbs.specs.Find.{found_is}
 use Rattle.life.specs.Drain.{drains}
 use Rattle.life.specs.HandBack.{backs, handed_drained}
 use Rattle.life.specs.LetGo.{SoundOn, let_from, let_all}
-use Rattle.life.specs.Leave.{Served, Leaves}
+use Rattle.life.specs.Leave.{Served}
 
 -- the thread at p, which has the number n, ends. Its nucleus need only be Sound: more is not left when one of a family after another ends.
 pub record EndsAt (d : Desk) (b w l : List ℕ) (n p : ℕ) : Type 0 where
@@ -26,6 +27,10 @@ pub record EndsAt (d : Desk) (b w l : List ℕ) (n p : ℕ) : Type 0 where
   pub sound : Sound (shown d b w l)
   pub lives : (thread (shown d b w l) p).standing ≢ Empty
   pub number : (thread (shown d b w l) p).number ≡ n
+
+-- the same of the arrays as they are lent
+abbrev pub EndsIn : Desk → Arrays → ℕ → ℕ → Type 0
+EndsIn d a n p = EndsAt d a.table.blocks a.table.words a.lines n p
 
 module _ {d : Desk} {b w l : List ℕ} {n p : ℕ} (k : EndsAt d b w l n p) where
   pub end_place : p < places
@@ -83,10 +88,9 @@ module _ {d : Desk} {b w l : List ℕ} {n p : ℕ} (k : EndsAt d b w l n p) wher
             at = thread_at d.last.0 d.running.0 b₃ w₃ l₃ p end_place
 
         -- it leaves its line, and its place is cleaned
-        pub ended : {e : Desk} {l₄ b₄ w₄ : List ℕ} → Leaves d b₃ l₃ p e l₄ → Stored b₃ w₃ p emptied b₄ w₄ → Turns d b w l e b₄ w₄ l₄ (end_at p n)
-        ended {e} {l₄} u v =
+        pub ended : {e : Desk} {b₄ w₄ l₄ b₅ w₅ : List ℕ} → Turns d b₃ w₃ l₃ e b₄ w₄ l₄ (out_of_line p) → Stored b₄ w₄ p emptied b₅ w₅ → Turns d b w l e b₅ w₅ l₄ (end_at p n)
+        ended {e} x v =
             let m = shown d b w l in
-            let x = u w₃ r.whole in
             let y = wrote x.whole end_place v in
             record {
               whole = y.whole;

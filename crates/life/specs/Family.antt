@@ -25,6 +25,7 @@ use Rattle.order.specs.Lives.{lives_now}
 use Rattle.order.proofs.Lives.{act_lives}
 use Rattle.table.specs.Cells.{cell, shown, Whole, stands_at, Filled, Stands}
 use Rattle.table.specs.Rows.{thread_at}
+use Rattle.table.specs.declared.Arrays.{Arrays}
 use Rattle.table.specs.declared.Desk.{Desk}
 use Rattle.verbs.specs.Steps.{Turns}
 use Rattle.verbs.specs.Caller.{sounds}
@@ -43,6 +44,13 @@ pub record Tallied (d : Desk) (b w l : List ℕ) : Type 0 where
 pub record Empties (d : Desk) (b w l : List ℕ) (d' : Desk) (b' w' l' : List ℕ) (f : Model → Model) : Type 0 where
   pub tallied : Tallied d' b' w' l'
   pub seen : shown d' b' w' l' ≡ f (shown d b w l)
+
+-- the same of the arrays as they are lent
+abbrev pub TalliedIn : Desk → Arrays → Type 0
+TalliedIn d a = Tallied d a.table.blocks a.table.words a.lines
+
+abbrev pub EmptiesIn : Desk → Arrays → Desk → Arrays → (Model → Model) → Type 0
+EmptiesIn d a d' a' f = Empties d a.table.blocks a.table.words a.lines d' a'.table.blocks a'.table.words a'.lines f
 
 -- ---- one thread ends
 
@@ -148,6 +156,9 @@ pub record Sweeping (depth p : ℕ) (d : Desk) (b w l : List ℕ) (d' : Desk) (b
   pub tallied : Tallied d' b' w' l'
   pub may : MayEnd depth p (shown d' b' w' l')
   pub goes : children_from (depth - 1) p 0 places (shown d b w l) ≡ children_from (depth - 1) p r (places - r) (shown d' b' w' l')
+
+abbrev pub SweepingIn : ℕ → ℕ → Desk → Arrays → Desk → Arrays → ℕ → Type 0
+SweepingIn depth p d a d' a' r = Sweeping depth p d a.table.blocks a.table.words a.lines d' a'.table.blocks a'.table.words a'.lines r
 
 -- there is depth left
 pub deeper : {depth p : ℕ} {m : Model} → MayEnd depth p m → 1 ≤ depth

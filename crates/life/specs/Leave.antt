@@ -1,15 +1,15 @@
 -- Event 5, end: the thread at p leaves the line where its standing puts it, or stops running.
-use Rattle.std.specs.Prelude.{◌≡◌, refl, List, false, cond, ℕ, ◌+◌, ◌<◌, eqb, get_or}
+use Rattle.std.specs.Prelude.{◌≡◌, refl, List, Some, false, cond, ℕ, ◌+◌, ◌<◌, eqb, get_or}
 use Rattle.std.proofs.Common.{sym, ap, ◌∙◌, arith, eq-eqb, ne_eqb, eqb-true}
-use Rattle.lists.specs.Lists.{none, without}
+use Rattle.lists.specs.Lists.{none, known, without}
 use Rattle.lists.specs.Laws.{by_test}
 use Rattle.lines.specs.Lines.{line_of, Turned}
 use Rattle.rules.specs.Model.{places, devices, line_count, Running, Ready, Sending, Waiting, AtDevice, Thread, Model, ready, clock, device, inbox}
 use Rattle.rules.specs.Rules.{place_of, runs, leave, out_of_line}
-use Rattle.table.specs.Cells.{cell, thread_of, shown, Whole, inbox_lines, inbox_line}
+use Rattle.table.specs.Cells.{cell, thread_of, shown, Whole, inbox_lines, inbox_line, running}
 use Rattle.table.specs.Rows.{thread_at}
 use Rattle.table.specs.declared.Desk.{Desk}
-use Rattle.verbs.specs.Steps.{Turns, running, left, stays}
+use Rattle.verbs.specs.Steps.{Turns, left, stays}
 use Rattle.verbs.specs.Find.{found, found_is}
 
 -- the line where the thread at p stands, or none
@@ -25,10 +25,6 @@ pub record Served (b : List ℕ) (p : ℕ) : Type 0 where
   pub sends : get_or b (cell 1 p) 0 ≡ Sending → found b (get_or b (cell 2 p) 0) < places
   pub waits : get_or b (cell 1 p) 0 ≡ AtDevice → get_or b (cell 2 p) 0 < devices
 
--- it leaves, whatever the words are
-abbrev pub Leaves : Desk → List ℕ → List ℕ → ℕ → Desk → List ℕ → Type 0
-Leaves d b l p e l' = (w : List ℕ) → Whole b w l → Turns d b w l e b w l' (out_of_line p)
-
 -- ---- the rule, its look-up of the thread done
 
 abbrev out_as : Thread → ℕ → Model → Model
@@ -41,6 +37,10 @@ out_as t p m =
 
 abbrev off_line : ℕ → ℕ → Model → Model
 off_line q p m = cond (eqb q none) m (leave q p m)
+
+-- a line that is named
+pub known_line : {q x : ℕ} → q ≡ x → (q ≡ none → ⊥) → Some q ≡ known x
+known_line {q} e n = rw (← e, ne_eqb q none n)
 
 -- whom it sends to stands at a place
 pub sent_low : (b : List ℕ) (p : ℕ) {s k r : ℕ} → Served b p → s ≡ get_or b (cell 1 p) 0 → s ≡ Sending → k ≡ get_or b (cell 2 p) 0 → r ≡ found b k → r < places
@@ -89,22 +89,22 @@ line_low b p s n =
 pub leaves_low : (b : List ℕ) (p : ℕ) {q : ℕ} → Served b p → q ≡ line_in b p → (q ≡ none → ⊥) → q < line_count
 leaves_low b p s u z = rw u (line_low b p s (λ y. z (u ∙ y)))
 
-module _ (d : Desk) (b l : List ℕ) {p : ℕ} (h : p < places) where
-  as_read : (w : List ℕ) → out_of_line p (shown d b w l) ≡ out_as (thread_of b w p) p (shown d b w l)
-  as_read w = ap (λ (t : Thread). out_as t p (shown d b w l)) (thread_at d.last.0 d.running.0 b w l p h)
+module _ (d : Desk) {b w l : List ℕ} (k : Whole b w l) {p : ℕ} (h : p < places) where
+  as_read : out_of_line p (shown d b w l) ≡ out_as (thread_of b w p) p (shown d b w l)
+  as_read = ap (λ (t : Thread). out_as t p (shown d b w l)) (thread_at d.last.0 d.running.0 b w l p h)
 
   -- it runs
-  pub leaves_off : get_or b (cell 1 p) 0 ≡ Running → {e : Desk} → e ≡ running none d → Leaves d b l p e l
-  leaves_off z y w k = record { whole = k; filled = ap (λ (c : Desk). c.filled) y; seen = rw y (sym (as_read w ∙ rw (eq-eqb (get_or b (cell 1 p) 0) Running z))) }
+  pub leaves_off : get_or b (cell 1 p) 0 ≡ Running → {e : Desk} → e ≡ running none d → Turns d b w l e b w l (out_of_line p)
+  leaves_off z y = record { whole = k; filled = ap (λ (c : Desk). c.filled) y; seen = rw y (sym (as_read ∙ rw (eq-eqb (get_or b (cell 1 p) 0) Running z))) }
 
   -- it does not
   module _ (s : Served b p) (r : get_or b (cell 1 p) 0 ≡ Running → ⊥) {q : ℕ} (u : q ≡ line_in b p) where
-    out_as_lem : (w : List ℕ) → out_of_line p (shown d b w l) ≡ off_line q p (shown d b w l)
-    out_as_lem w =
+    out_as_lem : out_of_line p (shown d b w l) ≡ off_line q p (shown d b w l)
+    out_as_lem =
         let st = get_or b (cell 1 p) 0 in
         let pa = get_or b (cell 2 p) 0 in
         let c = ne_eqb st Running r in
-        as_read w ∙ by_test (eqb st Ready)
+        as_read ∙ by_test (eqb st Ready)
         (λ e. rw (u, c, e))
         (λ e. by_test (eqb st Sending)
         (λ f.
@@ -116,10 +116,10 @@ module _ (d : Desk) (b l : List ℕ) {p : ℕ} (h : p < places) where
         (λ h. let i = s.waits (eqb-true st AtDevice h) in rw (u, c, e, f, g, h, ne_eqb (device pa) none (omega arith)))
         (λ h. rw (u, c, e, f, g, h)))))
 
-    pub leaves_not : q ≡ none → Leaves d b l p d l
-    leaves_not z w k = record { whole = k; filled = refl; seen = sym (out_as_lem w ∙ rw z) }
+    pub leaves_not : q ≡ none → Turns d b w l d b w l (out_of_line p)
+    leaves_not z = record { whole = k; filled = refl; seen = sym (out_as_lem ∙ rw z) }
 
-    pub leaves_line : (q ≡ none → ⊥) → {l' : List ℕ} → Turned places line_count l l' q (without p (line_of places l q)) → Leaves d b l p d l'
-    leaves_line z t w k =
+    pub leaves_line : (q ≡ none → ⊥) → {l' : List ℕ} → Turned places line_count l l' q (without p (line_of places l q)) → Turns d b w l d b w l' (out_of_line p)
+    leaves_line z t =
         let v = stays {d = d} (left k (leaves_low b p s u z) p t) in
-        record { whole = v.whole; filled = refl; seen = v.seen ∙ sym (out_as_lem w ∙ rw (ne_eqb q none z)) }
+        record { whole = v.whole; filled = refl; seen = v.seen ∙ sym (out_as_lem ∙ rw (ne_eqb q none z)) }

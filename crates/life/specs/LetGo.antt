@@ -13,6 +13,7 @@ use Rattle.order.specs.Moves.{Kept, still, kept_then}
 use Rattle.order.specs.HandBack.{Fair, let_step, let_one}
 use Rattle.table.specs.Cells.{cell, thread_of, model_of, Whole}
 use Rattle.table.specs.Rows.{thread_at}
+use Rattle.table.specs.declared.Arrays.{Arrays}
 use Rattle.verbs.specs.Steps.{Steps}
 use Rattle.verbs.specs.Caller.{loose}
 
@@ -22,6 +23,10 @@ pub record SoundOn (b w l : List ℕ) : Type 0 where
   pub running : ℕ
   pub whole : Whole b w l
   pub sound : Sound (model_of last running b w l)
+
+-- the same of the arrays as they are lent
+abbrev pub SoundIn : Arrays → Type 0
+SoundIn a = SoundOn a.table.blocks a.table.words a.lines
 
 -- ---- one place: what the code has found out of it, and what it has done
 
@@ -81,6 +86,9 @@ pub record Letting (g : Group) (b w l b' w' l' : List ℕ) (p : ℕ) : Type 0 wh
   pub now : SoundOn b' w' l'
   pub kept : (y x : ℕ) → Sound (model_of y x b w l) → Kept (model_of y x b w l) (model_of y x b' w' l')
   pub goes : (y x : ℕ) → let_from g 0 places (model_of y x b w l) ≡ let_from g p (places - p) (model_of y x b' w' l')
+
+abbrev pub LettingIn : Group → Arrays → Arrays → ℕ → Type 0
+LettingIn g a a' p = Letting g a.table.blocks a.table.words a.lines a'.table.blocks a'.table.words a'.lines p
 
 pub let_start : {g : Group} {b w l : List ℕ} → SoundOn b w l → Letting g b w l b w l 0
 let_start {b = b} {w} {l} k = record { upto = omega arith; now = k; kept = λ y x S. (still (model_of y x b w l) S).kept; goes = λ y x. refl }

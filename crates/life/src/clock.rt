@@ -2,76 +2,66 @@
 ghost use Rattle.std.specs.Prelude.{◌<◌};
 ghost use Rattle.rules.specs.Model.{line_count, ready, clock};
 ghost use Rattle.rules.specs.declared.Event.TheVariants.{WaitClock, SliceEnd, Tick};
-ghost use Rattle.table.specs.Cells.{Whole, Stands};
-ghost use Rattle.verbs.specs.Steps.{Steps};
-ghost use Rattle.events.specs.Events.{Did};
-ghost use Rattle.life.specs.Drain.{First, drains};
+ghost use Rattle.table.specs.Cells.{WholeIn, StandsIn};
+ghost use Rattle.verbs.specs.Steps.{StepsIn};
+ghost use Rattle.events.specs.Events.{DidIn};
+ghost use Rattle.life.specs.Drain.{FirstIn, drains};
 ghost use Rattle.life.specs.Clock.{rings};
 
-use events::{Outcome, answer};
-use lines::Links;
-use rules::{Number, Place, codes};
-use table::{Blocks, Desk, Words};
+use events::Done;
+use rules::{Number, Place, Refusal, codes};
+use table::{Arrays, Desk};
 
 // 6. The caller joins the back of the clock queue.
-pub fn wait_clock(b: &mut Blocks, w: &mut Words, l: &mut Links, d: Desk) -> Outcome
-    requires { Stands d b.old w.old l.old }
-    ensures { Did d b.old w.old l.old WaitClock result b.new w.new l.new }
+pub fn wait_clock(a: &mut Arrays, d: Desk) -> Result<Done, Refusal>
+    requires { StandsIn d a.old }
+    ensures { DidIn d a.old WaitClock result a.new }
 {
-    let p = d.running;
-    if p.0 == lines::NONE {
-        return answer(codes::IDLE, d);
-    }
-    table::stand(b, w, p, rules::WAITING, Number(rules::NOBODY), 0);
-    lines::join(l, table::CLOCK_LINE, p.0);
-    let e = verbs::turn_to(d, Place(lines::NONE));
-    answer(codes::DONE, e)
+    let Some(p) = d.runner() else {
+        return Err(Refusal::Idle);
+    };
+    a.table.stand(p, rules::WAITING, Number(rules::NOBODY), 0);
+    lines::join(&mut a.lines, table::CLOCK_LINE, p.0);
+    Ok(Done::at(d.turned_to(Place(lines::NONE))))
 }
 
 // 7. The running thread goes to the back of ready. With none running, nothing changes.
-pub fn slice_end(b: &mut Blocks, w: &mut Words, l: &mut Links, d: Desk) -> Outcome
-    requires { Stands d b.old w.old l.old }
-    ensures { Did d b.old w.old l.old SliceEnd result b.new w.new l.new }
+pub fn slice_end(a: &mut Arrays, d: Desk) -> Result<Done, Refusal>
+    requires { StandsIn d a.old }
+    ensures { DidIn d a.old SliceEnd result a.new }
 {
-    let p = d.running;
-    if p.0 == lines::NONE {
-        return answer(codes::DONE, d);
-    }
-    verbs::ready(b, w, l, p);
-    let e = verbs::turn_to(d, Place(lines::NONE));
-    answer(codes::DONE, e)
+    let Some(p) = d.runner() else {
+        return Ok(Done::at(d));
+    };
+    verbs::ready(a, p);
+    Ok(Done::at(d.turned_to(Place(lines::NONE))))
 }
 
 // Wakes the first of line q, the clock's or a device's, with this word. False where nobody stands in it.
-pub fn ring(b: &mut Blocks, w: &mut Words, l: &mut Links, q: u8, word: u32) -> bool
-    requires { Whole b.old w.old l.old × (ready < q) × (q < line_count) }
-    ensures { First (rings word) q b.old w.old l.old b.new w.new l.new result }
+pub fn ring(a: &mut Arrays, q: u8, word: u32) -> bool
+    requires { WholeIn a.old × (ready < q) × (q < line_count) }
+    ensures { FirstIn (rings word) q a.old a.new result }
 {
-    let p = lines::pop(l, q);
-    if p == lines::NONE {
+    let Some(p) = lines::pop(&mut a.lines, q) else {
         return false;
-    }
-    verbs::wake(b, w, l, Place(p), codes::DONE, Number(rules::NOBODY), word);
+    };
+    verbs::wake(a, Place(p), codes::DONE, Number(rules::NOBODY), word);
     true
 }
 
 // Wakes all clock waiters, first come first.
-fn ring_all(b: &mut Blocks, w: &mut Words, l: &mut Links)
-    requires { Whole b.old w.old l.old }
-    ensures { Steps b.old w.old l.old b.new w.new l.new (drains (rings 0) clock) }
+fn ring_all(a: &mut Arrays)
+    requires { WholeIn a.old }
+    ensures { StepsIn a.old a.new (drains (rings 0) clock) }
 {
-    loop {
-        if !ring(b, w, l, table::CLOCK_LINE, 0) {
-            return;
-        }
-    }
+    while ring(a, table::CLOCK_LINE, 0) {}
 }
 
 // 8. All clock waiters join ready in order.
-pub fn tick(b: &mut Blocks, w: &mut Words, l: &mut Links, d: Desk) -> Outcome
-    requires { Stands d b.old w.old l.old }
-    ensures { Did d b.old w.old l.old Tick result b.new w.new l.new }
+pub fn tick(a: &mut Arrays, d: Desk) -> Result<Done, Refusal>
+    requires { StandsIn d a.old }
+    ensures { DidIn d a.old Tick result a.new }
 {
-    ring_all(b, w, l);
-    answer(codes::DONE, d)
+    ring_all(a);
+    Ok(Done::at(d))
 }

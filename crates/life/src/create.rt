@@ -2,87 +2,78 @@
 ghost use Rattle.std.specs.Prelude.{◌≡◌, ◌<◌};
 ghost use Rattle.rules.specs.Model.{places};
 ghost use Rattle.rules.specs.declared.Event.TheVariants.{Create};
-ghost use Rattle.table.specs.Cells.{Stands};
-ghost use Rattle.events.specs.Events.{Did};
+ghost use Rattle.table.specs.Cells.{StandsIn};
+ghost use Rattle.events.specs.Events.{DidIn};
 ghost use Rattle.bits.specs.Set.{Adds};
 ghost use Rattle.verbs.specs.Address.{Seated};
 ghost use Rattle.life.specs.Create.{number_at};
 ghost use Rattle.life.specs.Number.{bars_at, bars, free_after};
 
 use bits::Set;
-use events::{Outcome, answer};
-use lines::Links;
-use rules::{Number, Place, codes};
-use table::{Blocks, Desk, Words};
+use events::Done;
+use rules::{Number, Place, Refusal};
+use table::{Arrays, Desk, Table};
 
 // The numbers that the place p bars come into the set: its thread's, and the one that the thread's answer names.
-fn bar(b: &Blocks, p: Place, s: &mut Set)
+fn bar(t: &Table, p: Place, s: &mut Set)
     requires { p.0 < places }
-    ensures { Adds s.old (λ n. bars_at b.now n p.0) s.new }
+    ensures { Adds s.old (λ n. bars_at t.now.blocks n p.0) s.new }
 {
     let at = p.0 as usize;
-    if b[table::STANDING + at] == rules::EMPTY {
+    if t.blocks[table::STANDING + at] == rules::EMPTY {
         return;
     }
-    bits::insert(s, Number(b[table::NUMBER + at]));
-    bits::insert(s, Number(b[table::WHO + at]));
+    bits::insert(s, Number(t.blocks[table::NUMBER + at]));
+    bits::insert(s, Number(t.blocks[table::WHO + at]));
 }
 
 // The numbers that any place bars come into the set.
-fn gather(b: &Blocks, s: &mut Set)
-    ensures { Adds s.old (bars b.now) s.new }
+fn gather(t: &Table, s: &mut Set)
+    ensures { Adds s.old (bars t.now.blocks) s.new }
 {
-    let mut p: u8 = 0;
-    while p < lines::PLACES as u8 {
-        bar(b, Place(p), s);
-        p += 1;
+    for p in 0..lines::PLACES as u8 {
+        bar(t, Place(p), s);
     }
 }
 
 // The first number after `last` that is not barred.
-fn next_number(b: &Blocks, last: Number) -> Number
-    ensures { result.0 ≡ free_after b.now last.0 }
+fn next_number(t: &Table, last: Number) -> Number
+    ensures { result.0 ≡ free_after t.now.blocks last.0 }
 {
     let mut s = bits::empty();
-    gather(b, &mut s);
+    gather(t, &mut s);
     bits::next_clear(&s, last)
 }
 
 // The number that runs, which becomes the newcomer's parent. Nobody's where nobody runs.
-fn creator(b: &Blocks, d: Desk) -> Number
+fn creator(t: &Table, d: Desk) -> Number
     requires { Seated d }
-    ensures { result.0 ≡ number_at b.now d.running.0 }
+    ensures { result.0 ≡ number_at t.now.blocks d.running.0 }
 {
-    let p = d.running;
-    if p.0 == lines::NONE {
-        return Number(rules::NOBODY);
+    match d.runner() {
+        Some(p) => t.number_of(p),
+        None => Number(rules::NOBODY),
     }
-    table::number_of(b, p)
 }
 
 // 1. The lowest empty place takes a thread with the next number that is not barred and whoever runs as its parent, which joins the back of ready.
-pub fn create(b: &mut Blocks, w: &mut Words, l: &mut Links, d: Desk) -> Outcome
-    requires { Stands d b.old w.old l.old }
-    ensures { Did d b.old w.old l.old Create result b.new w.new l.new }
+pub fn create(a: &mut Arrays, d: Desk) -> Result<Done, Refusal>
+    requires { StandsIn d a.old }
+    ensures { DidIn d a.old Create result a.new }
 {
     if filled::count(d.filled) == lines::PLACES as u8 {
-        return answer(codes::FULL, d);
+        return Err(Refusal::Full);
     }
     let p = filled::lowest(d.filled);
-    let last = d.last;
-    let n = next_number(b, last);
-    let parent = creator(b, d);
-    verbs::seat(b, w, l, Place(p), n, parent);
-    let x = filled::with(d.filled, p);
-    let running = d.running;
-    let e = Desk {
-        filled: x,
-        last: n,
-        running: running,
-    };
-    Outcome {
-        code: codes::DONE,
-        desk: e,
+    let n = next_number(&a.table, d.last);
+    let parent = creator(&a.table, d);
+    verbs::seat(a, Place(p), n, parent);
+    Ok(Done {
+        desk: Desk {
+            filled: filled::with(d.filled, p),
+            last: n,
+            ..d
+        },
         number: n,
-    }
+    })
 }

@@ -9,11 +9,11 @@ loop-init c = drain_start c.requires
 pub ring-requires : goal.ring-requires
 ring-requires c = (c.loop.invariant.whole, omega arith, omega arith)
 
-pub returns-then-not-ring : goal.returns-then-not-ring
-returns-then-not-ring c = drain_end c.loop.invariant c.ring.ensures (omega arith) c.if-not-ring.true
-
 pub loop-smaller : goal.loop-smaller
-loop-smaller c = drain_less c.loop.invariant c.ring.ensures c.if-not-ring.false
+loop-smaller c = drain_less c.loop.invariant c.ring.ensures c.loop-test.true
 
 pub loop-preserved : goal.loop-preserved
-loop-preserved c = drain_again c.loop.invariant c.ring.ensures c.if-not-ring.false
+loop-preserved c = drain_again c.loop.invariant c.ring.ensures c.loop-test.true
+
+pub returns : goal.returns
+returns c = drain_end c.loop.invariant c.ring.ensures (omega arith) c.loop-test.false

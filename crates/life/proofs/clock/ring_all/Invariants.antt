@@ -2,12 +2,12 @@
 use lib.ListN.{length}
 use Rattle.lines.specs.Lines.{line_of}
 use Rattle.rules.specs.Model.{places, clock}
-use Rattle.life.specs.Drain.{Draining}
+use Rattle.life.specs.Drain.{DrainingIn}
 use Rattle.life.specs.Clock.{rings}
 use Rattle.life.proofs.clock.ring_all.Given as goal
 
 abbrev pub invariant-loop : goal.invariant-loop
-invariant-loop l = Draining (rings 0) clock l.initial.b l.initial.w l.initial.l l.b l.w l.l
+invariant-loop l = DrainingIn (rings 0) clock l.initial.a l.a
 
 abbrev pub decreases-loop : goal.decreases-loop
-decreases-loop l = length (line_of places l.l clock)
+decreases-loop l = length (line_of places l.a.lines clock)

@@ -1,15 +1,18 @@
 -- `slice_end` meets its contract: nothing changes with nobody running; else the caller is ready, and nobody runs.
-use Rattle.verbs.specs.Caller.{caller_place, caller_loose}
-use Rattle.life.specs.Clock.{slice_idle, slice_busy}
+use mathlib.Core.Path.{refl}
+use Rattle.rules.specs.Known.{no_place}
+use Rattle.life.specs.Clock.{calls, slice_idle, slice_busy}
 use Rattle.life.proofs.clock.slice_end.Goals as goal
 
-pub returns-then-p : goal.returns-then-p
-returns-then-p c = slice_idle c.requires c.if-p.true c.answer.ensures
+pub returns-in_default : goal.returns-in_default
+returns-in_default c = rw c.at.ensures (slice_idle c.requires (no_place c.runner.ensures c.in_default.is) refl)
 
 pub ready-requires : goal.ready-requires
 ready-requires c =
-    (c.requires.whole, caller_place c.requires c.if-p.false, caller_loose c.requires c.if-p.false)
+    let k = calls c.requires c.runner.ensures c.in-Some.is in
+    (c.requires.whole, k.place, k.loose)
 
 pub returns : goal.returns
 returns c =
-    slice_busy c.requires c.if-p.false c.ready.ensures c.turn_to-e.ensures c.answer-2.ensures
+    let k = calls c.requires c.runner.ensures c.in-Some.is in
+    rw c.at-2.ensures (slice_busy c.requires k.busy (rw k.is at c.ready.ensures) c.turned_to.ensures refl)

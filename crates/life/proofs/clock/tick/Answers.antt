@@ -1,4 +1,5 @@
 -- `tick` meets its contract: all who waited are woken, and the desk stays.
+use mathlib.Core.Path.{refl}
 use Rattle.life.specs.Clock.{ticks}
 use Rattle.life.proofs.clock.tick.Goals as goal
 
@@ -6,4 +7,4 @@ pub ring_all-requires : goal.ring_all-requires
 ring_all-requires c = c.requires.whole
 
 pub returns : goal.returns
-returns c = ticks c.requires c.ring_all.ensures c.answer.ensures
+returns c = rw c.at.ensures (ticks c.requires c.ring_all.ensures refl)

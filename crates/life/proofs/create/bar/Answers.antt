@@ -2,9 +2,9 @@
 use Rattle.life.specs.Gather.{bar_none, bar_both}
 use Rattle.life.proofs.create.bar.Goals as goal
 
-pub returns-then-b-at-eq-EMPTY : goal.returns-then-b-at-eq-EMPTY
-returns-then-b-at-eq-EMPTY c = bar_none c.args.b.now c.args.p.0 c.if-b-at-eq-EMPTY.true
+pub returns-then-t-at-eq-EMPTY : goal.returns-then-t-at-eq-EMPTY
+returns-then-t-at-eq-EMPTY c = bar_none c.args.t.now.blocks c.args.p.0 c.if-t-at-eq-EMPTY.true
 
 pub returns : goal.returns
 returns c =
-    bar_both c.args.b.now c.args.p.0 c.if-b-at-eq-EMPTY.false c.insert.ensures c.insert-2.ensures
+    bar_both c.args.t.now.blocks c.args.p.0 c.if-t-at-eq-EMPTY.false c.insert.ensures c.insert-2.ensures

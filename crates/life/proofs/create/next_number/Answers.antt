@@ -5,4 +5,4 @@ use Rattle.life.proofs.create.next_number.Goals as goal
 
 pub returns : goal.returns
 returns c =
-    c.next_clear.ensures (bars c.args.b.now) (c.gather.ensures.adds (λ _. false) c.empty-s.ensures)
+    c.next_clear.ensures (bars c.args.t.now.blocks) (c.gather.ensures.adds (λ _. false) c.empty-s.ensures)

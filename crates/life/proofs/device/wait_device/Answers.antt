@@ -2,29 +2,31 @@
 use mathlib.Core.Path.{refl}
 use native.Mathlib.Omega.{arith}
 use Rattle.rules.specs.Rules.{wait_device}
+use Rattle.rules.specs.Known.{no_place}
 use Rattle.verbs.specs.Steps.{then, turns, stood, joined}
-use Rattle.verbs.specs.Caller.{caller_place, caller_loose}
+use Rattle.life.specs.Clock.{calls}
 use Rattle.life.specs.Device.{device_1, device_2, device_0}
 use Rattle.life.proofs.device.wait_device.Goals as goal
 
-pub returns-then-p : goal.returns-then-p
-returns-then-p c =
-    device_1 c.requires c.args.i c.if-p.true c.answer.ensures
+pub returns-in_default : goal.returns-in_default
+returns-in_default c =
+    device_1 c.requires c.args.i (no_place c.runner.ensures c.in_default.is) refl
 
 pub returns-then-i : goal.returns-then-i
 returns-then-i c =
-    device_2 c.requires c.args.i c.if-p.false (omega (arith, c.if-i.true)) c.answer-then-i.ensures
+    device_2 c.requires c.args.i (calls c.requires c.runner.ensures c.in-Some.is).busy (omega (arith, c.if-i.true)) refl
 
 pub stand-requires : goal.stand-requires
-stand-requires c =
-    caller_place c.requires c.if-p.false
+stand-requires c = (calls c.requires c.runner.ensures c.in-Some.is).place
 
 pub join-requires : goal.join-requires
 join-requires c =
-    (c.requires.whole.lines, omega (arith, c.if-i.false), caller_place c.requires c.if-p.false, caller_loose c.requires c.if-p.false)
+    let k = calls c.requires c.runner.ensures c.in-Some.is in
+    (c.requires.whole.lines, omega (arith, c.if-i.false), k.place, k.loose)
 
 pub returns : goal.returns
 returns c =
-    let s = stood c.requires.whole (caller_place c.requires c.if-p.false) c.stand.ensures in
+    let k = calls c.requires c.runner.ensures c.in-Some.is in
+    let s = stood c.requires.whole k.place c.stand.ensures in
     let t = joined s.whole (omega (arith, c.if-i.false)) c.join.ensures in
-    device_0 c.requires c.args.i c.if-p.false (omega (arith, c.if-i.false)) (turns (wait_device c.args.i.0) (then s t) c.turn_to-e.ensures refl) c.answer-2.ensures
+    rw c.at.ensures (device_0 c.requires c.args.i k.busy (omega (arith, c.if-i.false)) (turns (wait_device c.args.i.0) (then s t) c.turned_to.ensures (rw k.is)) refl)

@@ -1,7 +1,6 @@
 -- A child ends with one less of depth, so the measure is twice the depth, and one more for `end_child`, which passes the depth on.
-use Rattle.std.proofs.Common.{◌+◌, ◌-◌}
-use Rattle.rules.specs.Model.{places}
-use Rattle.life.specs.Family.{Sweeping}
+use Rattle.std.proofs.Common.{◌+◌}
+use Rattle.life.specs.Family.{SweepingIn}
 use Rattle.life.proofs.end.+end_child_end_down.Given as goal
 
 abbrev pub decreases-end_child : goal.decreases-end_child
@@ -11,7 +10,4 @@ abbrev pub decreases-end_down : goal.decreases-end_down
 decreases-end_down l = l.depth + l.depth
 
 abbrev pub invariant-end_down-loop-r : goal.invariant-end_down-loop-r
-invariant-end_down-loop-r l = Sweeping l.depth l.p.0 l.initial.e l.initial.b l.initial.w l.initial.l l.e l.b l.w l.l l.r
-
-abbrev pub decreases-end_down-loop-r : goal.decreases-end_down-loop-r
-decreases-end_down-loop-r l = places - l.r
+invariant-end_down-loop-r l = SweepingIn l.depth l.p.0 l.initial.e l.initial.a l.e l.a l.r

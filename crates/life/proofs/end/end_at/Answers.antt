@@ -21,14 +21,14 @@ wake_listeners-requires c =
 
 pub out_of_line-e-requires : goal.out_of_line-e-requires
 out_of_line-e-requires c = (
-  c.wake_listeners.ensures.whole.lines,
+  c.wake_listeners.ensures.whole,
   end_place c.requires,
   end_served c.requires c.hand_all_back.ensures c.let_go.ensures c.wake_listeners.ensures,
 )
 
 pub clean-requires : goal.clean-requires
 clean-requires c =
-    let k = c.wake_listeners.ensures.whole in
+    let k = c.out_of_line-e.ensures.whole in
     (record { blocks = k.blocks; words = k.words }, end_place c.requires)
 
 pub returns : goal.returns

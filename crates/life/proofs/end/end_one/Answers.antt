@@ -9,10 +9,10 @@ pub end_at-e-requires : goal.end_at-e-requires
 end_at-e-requires c =
     ends_at c.requires.0 c.requires.1 _ c.requires.2 c.number_of-n.ensures
 
-pub less-x-requires : goal.less-x-requires
-less-x-requires c =
+pub less-requires : goal.less-requires
+less-requires c =
     one_place c.requires.0 c.requires.1 _ c.requires.2
 
 pub returns : goal.returns
 returns c =
-    emptied_one c.requires.0 c.requires.1 _ c.requires.2 c.number_of-n.ensures c.end_at-e.ensures c.less-x.ensures
+    emptied_one c.requires.0 c.requires.1 _ c.requires.2 c.number_of-n.ensures c.end_at-e.ensures c.less.ensures

@@ -8,12 +8,11 @@ loop-n-init c = drain_start c.requires.0
 pub hand_back-requires : goal.hand_back-requires
 hand_back-requires c = (c.loop-n.invariant.whole, c.requires.1, c.requires.2)
 
-pub returns-then-not-hand_back : goal.returns-then-not-hand_back
-returns-then-not-hand_back c =
-    drain_end c.loop-n.invariant c.hand_back.ensures c.requires.2 c.if-not-hand_back.true
-
 pub loop-n-smaller : goal.loop-n-smaller
-loop-n-smaller c = drain_less c.loop-n.invariant c.hand_back.ensures c.if-not-hand_back.false
+loop-n-smaller c = drain_less c.loop-n.invariant c.hand_back.ensures c.loop-n-test.true
 
 pub loop-n-preserved : goal.loop-n-preserved
-loop-n-preserved c = drain_again c.loop-n.invariant c.hand_back.ensures c.if-not-hand_back.false
+loop-n-preserved c = drain_again c.loop-n.invariant c.hand_back.ensures c.loop-n-test.true
+
+pub returns : goal.returns
+returns c = drain_end c.loop-n.invariant c.hand_back.ensures c.requires.2 c.loop-n-test.false

@@ -1,12 +1,7 @@
 -- `let_go` meets its contract: the places from here on are left to do.
-use Prim.Native.Nat.{◌-◌}
-use Rattle.rules.specs.Model.{places}
 use Rattle.rules.specs.Rules.{awaiting}
-use Rattle.life.specs.LetGo.{Letting}
+use Rattle.life.specs.LetGo.{LettingIn}
 use Rattle.life.proofs.end.let_go.Given as goal
 
 abbrev pub invariant-loop-p : goal.invariant-loop-p
-invariant-loop-p l = Letting (awaiting l.n.0) l.initial.b l.initial.w l.initial.l l.b l.w l.l l.p
-
-abbrev pub decreases-loop-p : goal.decreases-loop-p
-decreases-loop-p l = places - l.p
+invariant-loop-p l = LettingIn (awaiting l.n.0) l.initial.a l.a l.p

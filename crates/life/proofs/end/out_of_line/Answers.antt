@@ -1,5 +1,6 @@
 -- `out_of_line` meets its contract: it runs, or stands in no line, or leaves the one where it stands.
-use mathlib.Core.Path.{sym, ◌∙◌}
+use mathlib.Core.Path.{refl, sym, ◌∙◌}
+use Rattle.lists.specs.Known.{known_none, known_some}
 use Rattle.life.specs.Leave.{leaves_off, leaves_not, leaves_low, leaves_line}
 use Rattle.life.proofs.end.out_of_line.Goals as goal
 
@@ -7,19 +8,21 @@ pub standing_of-requires : goal.standing_of-requires
 standing_of-requires c = c.requires.1
 
 pub returns-then-standing_of-eq-RUNNING : goal.returns-then-standing_of-eq-RUNNING
-returns-then-standing_of-eq-RUNNING c = leaves_off _ _ _ c.requires.1 (sym c.standing_of.ensures ∙ c.if-standing_of-eq-RUNNING.true) c.turn_to.ensures
+returns-then-standing_of-eq-RUNNING c = leaves_off _ c.requires.0 c.requires.1 (sym c.standing_of.ensures ∙ c.if-standing_of-eq-RUNNING.true) c.turned_to.ensures
 
-pub line_of-q-requires : goal.line_of-q-requires
-line_of-q-requires c = (c.requires.1, c.requires.2)
+pub line_of-requires : goal.line_of-requires
+line_of-requires c = (c.requires.1, c.requires.2)
 
-pub returns-then-q : goal.returns-then-q
-returns-then-q c =
-    leaves_not _ _ _ c.requires.1 c.requires.2 (λ z. c.if-standing_of-eq-RUNNING.false (c.standing_of.ensures ∙ z)) c.line_of-q.ensures c.if-q.true
+pub returns-in_default : goal.returns-in_default
+returns-in_default c =
+    leaves_not _ c.requires.0 c.requires.1 c.requires.2 (λ z. c.if-standing_of-eq-RUNNING.false (c.standing_of.ensures ∙ z)) refl (known_none c.line_of.ensures c.in_default.is)
 
 pub leave-requires : goal.leave-requires
 leave-requires c =
-    (c.requires.0, leaves_low c.args.b.now c.args.p.0 c.requires.2 c.line_of-q.ensures c.if-q.false, c.requires.1)
+    let z = known_some c.line_of.ensures c.in-Some.is in
+    (c.requires.0.lines, leaves_low c.args.a.now.table.blocks c.args.p.0 c.requires.2 (sym z.0) (λ y. z.1 (z.0 ∙ y)), c.requires.1)
 
 pub returns : goal.returns
 returns c =
-    leaves_line _ _ _ c.requires.1 c.requires.2 (λ z. c.if-standing_of-eq-RUNNING.false (c.standing_of.ensures ∙ z)) c.line_of-q.ensures c.if-q.false c.leave.ensures
+    let z = known_some c.line_of.ensures c.in-Some.is in
+    leaves_line _ c.requires.0 c.requires.1 c.requires.2 (λ z. c.if-standing_of-eq-RUNNING.false (c.standing_of.ensures ∙ z)) (sym z.0) (λ y. z.1 (z.0 ∙ y)) c.leave.ensures
