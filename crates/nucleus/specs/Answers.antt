@@ -7,10 +7,10 @@ use Rattle.rules.specs.declared.Event.{Event}
 use Rattle.rules.specs.declared.Choice.{Choice}
 use Rattle.rules.specs.declared.Choice.TheVariants.{Halt}
 use Rattle.table.specs.Cells.{shown}
-use Rattle.table.specs.declared.Desk.{Desk}
-use Rattle.threads.specs.Ran.{Ran}
+use Rattle.table.specs.declared.Arrays.{Arrays}
+use Rattle.threads.specs.Ran.{RanIn}
 use Rattle.events.specs.declared.Outcome.{Outcome as Ended}
-use Rattle.nucleus.specs.View.{view, desk_of, laid, Shows, Looked, held, refused}
+use Rattle.nucleus.specs.View.{view, Shows, Looked, held, refused}
 use Rattle.nucleus.specs.Settled.{shows_one}
 use Rattle.nucleus.specs.declared.State.{State}
 use Rattle.nucleus.specs.declared.Reply.{Reply}

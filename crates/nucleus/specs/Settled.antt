@@ -17,7 +17,7 @@ use Rattle.table.specs.Cells.{thread_of, model_of, stands_at, as_thread}
 use Rattle.table.specs.declared.Thread.{Thread}
 use Rattle.table.specs.Rows.{same_blocks, same_words, same_lines}
 use Rattle.table.specs.Clean.{Emptied}
-use Rattle.nucleus.specs.View.{view, ConsistsBy, ShowsBy, Shows, Looked, held, refused}
+use Rattle.nucleus.specs.View.{view, laid, ConsistsBy, ShowsBy, Shows, Looked, held, refused}
 use Rattle.nucleus.specs.declared.State.{State}
 
 -- two consistent states that stand for one model are one state

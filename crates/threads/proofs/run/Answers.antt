@@ -1,14 +1,14 @@
 -- `run` meets its contract: a refused event leaves all as it was; after another, the front of ready is started.
-use native.Mathlib.Omega.{arith}
+use mathlib.Core.Path.{refl}
+use Rattle.verbs.specs.Address.{refused_not}
 use Rattle.threads.specs.Ran.{ran_not, ran}
 use Rattle.threads.proofs.run.Goals as goal
 
-pub returns-then-r-ne-DONE : goal.returns-then-r-ne-DONE
-returns-then-r-ne-DONE c = ran_not c.requires _ c.act-r.ensures c.if-r-ne-DONE.true
+pub dispatch-requires : goal.dispatch-requires
+dispatch-requires c = c.in-Ok.ensures.whole
 
-pub dispatch-y-requires : goal.dispatch-y-requires
-dispatch-y-requires c = c.act-r.ensures.whole
+pub returns-in-Ok : goal.returns-in-Ok
+returns-in-Ok c = ran c.requires _ c.in-Ok.ensures refl c.dispatch.ensures
 
-pub returns : goal.returns
-returns c =
-    ran c.requires _ c.act-r.ensures (omega (arith, c.if-r-ne-DONE.false)) c.dispatch-y.ensures
+pub returns-in-Err : goal.returns-in-Err
+returns-in-Err c = rw (c.answer.ensures, c.code.ensures) (ran_not c.requires _ c.in-Err.ensures (refused_not c.in-Err.refusal))
