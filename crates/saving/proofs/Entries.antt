@@ -8,6 +8,7 @@ use Rattle.lists.specs.Laid.{Wrote, laid_none, laid_length, laid_one, wrote_then
 use Rattle.lines.specs.Lines.{line_of}
 use Rattle.rules.specs.Model.{Place, Number, places, Empty, Thread, inbox, line, lives_at}
 use Rattle.table.specs.Cells.{thread_of}
+use Rattle.table.specs.declared.Arrays.{Arrays}
 use Rattle.table.specs.Rows.{thread_at, line_at}
 use Rattle.saving.specs.Format.{body_length, thread_bytes, parent_bytes, body_of, bodies, contents}
 use Rattle.saving.specs.Queues.{inbox_at}
@@ -59,19 +60,19 @@ module _ (row : Row) (s xs : List ℕ) (at : ℕ) (n : Number) {k : ℕ} (e : k 
         let i = length-append (parent_bytes row n) xs in
         ap length (inbox_whole q).bytes ∙ laid_length s at (length xs ∷ parent_bytes row n ++ xs) (omega arith)
 
-module _ (row : Row) (b w l : List ℕ) (p : Place) (h : p < places) {t : Thread} (e : t ≡ thread_of b w p) where
-  lives : lives_at (held b w l) p ≡ not (eqb t.standing Empty)
-  lives = rw (thread_at none none b w l p h, e)
+module _ (row : Row) (a : Arrays) (p : Place) (h : p < places) {t : Thread} (e : t ≡ thread_of a.table.blocks a.table.words p) where
+  lives : lives_at (held a) p ≡ not (eqb t.standing Empty)
+  lives = rw (thread_at none none a.table.blocks a.table.words a.lines p h, e)
 
   -- nobody lives there
   module _ (z : t.standing ≡ Empty) where
-    none_here : here (held b w l) p ≡ []
+    none_here : here (held a) p ≡ []
     none_here = rw (lives, eq-eqb t.standing Empty z)
 
-    pub body_none : (s : List ℕ) (at : ℕ) → Wrote s at (body_in row b w l p) s at
+    pub body_none : (s : List ℕ) (at : ℕ) → Wrote s at (body_in row a p) s at
     body_none s at = rw none_here (record { next = omega arith; bytes = sym (laid_none s at) })
 
-    pub entry_none : (s : List ℕ) (at o : ℕ) → EntryPut row (held b w l) p s at o s at o
+    pub entry_none : (s : List ℕ) (at o : ℕ) → EntryPut row (held a) p s at o s at o
     entry_none s at o = record {
       wrote = rw none_here (record { next = omega arith; bytes = sym (laid_none s at) });
       body = rw none_here (omega arith);
@@ -79,38 +80,38 @@ module _ (row : Row) (b w l : List ℕ) (p : Place) (h : p < places) {t : Thread
 
   -- somebody lives there
   module _ (z : t.standing ≡ Empty → ⊥) where
-    one_here : here (held b w l) p ≡ p ∷ []
+    one_here : here (held a) p ≡ p ∷ []
     one_here = rw (lives, ne_eqb t.standing Empty z)
 
-    inbox_is : line (held b w l) (inbox p) ≡ line_of places l (queue_count + p)
-    inbox_is = let i = inbox_at p in rw (line_at none none b w l (inbox p) (omega arith), i)
+    inbox_is : line (held a) (inbox p) ≡ line_of places a.lines (queue_count + p)
+    inbox_is = let i = inbox_at p in rw (line_at none none a.table.blocks a.table.words a.lines (inbox p) (omega arith), i)
 
-    pub body_one : body_in row b w l p ≡ thread_bytes t ++ (length (line_of places l (queue_count + p)) ∷ parent_bytes row t.parent ++ line_of places l (queue_count + p))
-    body_one = ap (bodies row (held b w l)) one_here ∙ append-nil (body_of row (held b w l) p) ∙ rw (inbox_is, thread_at none none b w l p h, e)
+    pub body_one : body_in row a p ≡ thread_bytes t ++ (length (line_of places a.lines (queue_count + p)) ∷ parent_bytes row t.parent ++ line_of places a.lines (queue_count + p))
+    body_one = ap (bodies row (held a)) one_here ∙ append-nil (body_of row (held a) p) ∙ rw (inbox_is, thread_at none none a.table.blocks a.table.words a.lines p h, e)
 
-    pub entry_one : (o : ℕ) → contents row (held b w l) o (here (held b w l) p) ≡ p ∷ t.number ∷ two_bytes o
-    entry_one o = ap (contents row (held b w l) o) one_here ∙ rw (thread_at none none b w l p h, e)
+    pub entry_one : (o : ℕ) → contents row (held a) o (here (held a) p) ≡ p ∷ t.number ∷ two_bytes o
+    entry_one o = ap (contents row (held a) o) one_here ∙ rw (thread_at none none a.table.blocks a.table.words a.lines p h, e)
 
-    size : length (body_in row b w l p) ≡ body_length row + length (line_of places l (queue_count + p))
-    size = let a = parent_length row t.parent in ap length body_one ∙ simp length-append (omega arith)
+    size : length (body_in row a p) ≡ body_length row + length (line_of places a.lines (queue_count + p))
+    size = let n = parent_length row t.parent in ap length body_one ∙ simp length-append (omega arith)
 
-    module _ (s : List ℕ) (at : ℕ) (room : at + length (body_in row b w l p) ≤ length s) where
+    module _ (s : List ℕ) (at : ℕ) (room : at + length (body_in row a p) ≤ length s) where
       pub thread_room : at + length (thread_bytes t) ≤ length s
       thread_room = let k = size in omega arith
 
       module _ {s' : List ℕ} {r : ℕ} (q : Wrote s at (thread_bytes t) s' r) where
-        pub inbox_room : r + 1 + bit row.parents + length (line_of places l (queue_count + p)) ≤ length s'
+        pub inbox_room : r + 1 + bit row.parents + length (line_of places a.lines (queue_count + p)) ≤ length s'
         inbox_room = let k = size in let i = q.next in let j = ap length q.bytes ∙ laid_length s at (thread_bytes t) thread_room in omega arith
 
-        pub body_whole : {u : List ℕ} {v : ℕ} → Wrote s' r (length (line_of places l (queue_count + p)) ∷ parent_bytes row t.parent ++ line_of places l (queue_count + p)) u v → Wrote s at (body_in row b w l p) u v
+        pub body_whole : {u : List ℕ} {v : ℕ} → Wrote s' r (length (line_of places a.lines (queue_count + p)) ∷ parent_bytes row t.parent ++ line_of places a.lines (queue_count + p)) u v → Wrote s at (body_in row a p) u v
         body_whole i =
             let k = ap length body_one in
-            let j = length-append (thread_bytes t) (length (line_of places l (queue_count + p)) ∷ parent_bytes row t.parent ++ line_of places l (queue_count + p)) in
+            let j = length-append (thread_bytes t) (length (line_of places a.lines (queue_count + p)) ∷ parent_bytes row t.parent ++ line_of places a.lines (queue_count + p)) in
             rw body_one (wrote_then q i (omega arith))
 
-    module _ {s : List ℕ} {at o : ℕ} (k : PutsEntry row b w l p s at o) {x : List ℕ} (i : x ≡ p ∷ t.number ∷ two_bytes o) where
+    module _ {s : List ℕ} {at o : ℕ} (k : PutsEntry row a p s at o) {x : List ℕ} (i : x ≡ p ∷ t.number ∷ two_bytes o) where
       pub entry_room : at + length x ≤ length s
       entry_room = let j = ap length i in let f = ap length (entry_one o) in let g = k.room in omega arith
 
-      pub entry_whole : {u : List ℕ} {r n v : ℕ} → Wrote s at x u r → n ≡ length (line_of places l (queue_count + p)) → v ≡ n → {c : ℕ} → c ≡ body_length row → EntryPut row (held b w l) p s at o u r (o + c + v)
+      pub entry_whole : {u : List ℕ} {r n v : ℕ} → Wrote s at x u r → n ≡ length (line_of places a.lines (queue_count + p)) → v ≡ n → {c : ℕ} → c ≡ body_length row → EntryPut row (held a) p s at o u r (o + c + v)
       entry_whole q f g d = record { wrote = rw (entry_one o, ← i) q; body = let j = size in omega arith }

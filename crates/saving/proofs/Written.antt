@@ -11,9 +11,10 @@ use Rattle.lists.specs.Laid.{laid, Wrote, laid_length, wrote_then, wrote_front, 
 use Rattle.lines.specs.Lines.{line_of}
 use Rattle.filled.specs.Filled.{width, word_of}
 use Rattle.rules.specs.Model.{places, line, live}
-use Rattle.table.specs.Cells.{shown, stands_at, StandsBy}
+use Rattle.table.specs.Cells.{stands_at, shown_in, StandsByIn}
 use Rattle.table.specs.Rows.{line_at}
 use Rattle.table.specs.Choose.{live_is}
+use Rattle.table.specs.declared.Arrays.{Arrays}
 use Rattle.table.specs.declared.Desk.{Desk}
 use Rattle.saving.specs.Format.{total_at, head_length, entry_length, queue_lengths, queues, head, encode_as}
 use Rattle.saving.specs.Queues.{sizes_same, joined_same, lengths_length}
@@ -24,47 +25,47 @@ use Rattle.saving.specs.declared.format.Row.{Row}
 use Rattle.saving.specs.Written.{Written, PutsContents, PutsTail, lengths_in, waiting_in, head_of}
 
 -- they are those of the model
-module _ (row : Row) (h : row.queues ≤ queue_count) (b w l : List ℕ) where
-  same : (q : ℕ) → q < queue_count → line (held b w l) q ≡ line_of places l q
-  same q k = line_at none none b w l q (omega arith)
+module _ (row : Row) (h : row.queues ≤ queue_count) (a : Arrays) where
+  same : (q : ℕ) → q < queue_count → line (held a) q ≡ line_of places a.lines q
+  same q k = line_at none none a.table.blocks a.table.words a.lines q (omega arith)
 
-  lengths_are : queue_lengths row (held b w l) ≡ lengths_in row l
-  lengths_are = sizes_same (line (held b w l)) (line_of places l) queue_count same row h
+  lengths_are : queue_lengths row (held a) ≡ lengths_in row a.lines
+  lengths_are = sizes_same (line (held a)) (line_of places a.lines) queue_count same row h
 
-  queues_are : queues row (held b w l) ≡ waiting_in row l
-  queues_are = joined_same (line (held b w l)) (line_of places l) queue_count same row h
+  queues_are : queues row (held a) ≡ waiting_in row a.lines
+  queues_are = joined_same (line (held a)) (line_of places a.lines) queue_count same row h
 
 -- ---- behind the head: contents, queues, bodies, one after the other
-module _ {row : Row} {b w l s : List ℕ} {o : ℕ} (k : PutsTail row b w l s o) where
-  tail_is : tail_in row b w l ≡ contents_in row b w l o ++ (waiting_in row l ++ bodies_in row b w l)
-  tail_is = rw (← k.first, queues_are row k.few b w l)
+module _ {row : Row} {a : Arrays} {s : List ℕ} {o : ℕ} (k : PutsTail row a s o) where
+  tail_is : tail_in row a ≡ contents_in row a o ++ (waiting_in row a.lines ++ bodies_in row a)
+  tail_is = rw (← k.first, queues_are row k.few a)
 
-  pub tail_contents : PutsContents row b w l s (head_length row) o
+  pub tail_contents : PutsContents row a s (head_length row) o
   tail_contents = record {
     lines = k.lines;
     room =
-        let a = ap length tail_is in
-        let c = length-append (contents_in row b w l o) (waiting_in row l ++ bodies_in row b w l) in
+        let i = ap length tail_is in
+        let c = length-append (contents_in row a o) (waiting_in row a.lines ++ bodies_in row a) in
         let h = k.room in
         omega arith;
-    low = let a = tail_length row (held b w l) in let c = k.first in let h = k.low in omega arith;
+    low = let i = tail_length row (held a) in let c = k.first in let h = k.low in omega arith;
   }
 
-  start : Going (laid s (head_length row) (tail_in row b w l)) (head_length row + length (tail_in row b w l)) s (head_length row) (contents_in row b w l o ++ (waiting_in row l ++ bodies_in row b w l))
-  start = going_by (going_start s (head_length row) (tail_in row b w l) k.room) tail_is
+  start : Going (laid s (head_length row) (tail_in row a)) (head_length row + length (tail_in row a)) s (head_length row) (contents_in row a o ++ (waiting_in row a.lines ++ bodies_in row a))
+  start = going_by (going_start s (head_length row) (tail_in row a) k.room) tail_is
 
-  module _ {t : List ℕ} {r : ℕ} (p₁ : Wrote s (head_length row) (contents_in row b w l o) t r) where
-    pub queues_room : r + length (waiting_in row l) ≤ length t
-    queues_room = going_room (waiting_in row l) (bodies_in row b w l) (going_more start p₁)
+  module _ {t : List ℕ} {r : ℕ} (p₁ : Wrote s (head_length row) (contents_in row a o) t r) where
+    pub queues_room : r + length (waiting_in row a.lines) ≤ length t
+    queues_room = going_room (waiting_in row a.lines) (bodies_in row a) (going_more start p₁)
 
-    module _ {u : List ℕ} {v : ℕ} (p₂ : Wrote t r (waiting_in row l) u v) where
-      left : Going (laid s (head_length row) (tail_in row b w l)) (head_length row + length (tail_in row b w l)) u v (bodies_in row b w l)
+    module _ {u : List ℕ} {v : ℕ} (p₂ : Wrote t r (waiting_in row a.lines) u v) where
+      left : Going (laid s (head_length row) (tail_in row a)) (head_length row + length (tail_in row a)) u v (bodies_in row a)
       left = going_more (going_more start p₁) p₂
 
-      pub bodies_room : v + length (bodies_in row b w l) ≤ length u
-      bodies_room = let a = left.ends in let c = left.room in omega arith
+      pub bodies_room : v + length (bodies_in row a) ≤ length u
+      bodies_room = let i = left.ends in let c = left.room in omega arith
 
-      pub tail_whole : {z : List ℕ} {e : ℕ} → Wrote u v (bodies_in row b w l) z e → Wrote s (head_length row) (tail_in row b w l) z e
+      pub tail_whole : {z : List ℕ} {e : ℕ} → Wrote u v (bodies_in row a) z e → Wrote s (head_length row) (tail_in row a) z e
       tail_whole p₃ = going_last left p₃
 
 -- ---- the head: four bytes, the lengths, and the total
@@ -107,52 +108,52 @@ module _ (row : Row) (l : List ℕ) (y x n k : ℕ) (s : List ℕ) (room : head_
           rw (ex, ey) at (wrote_then both w (omega arith))
 
 -- ---- the whole
-module _ (row : Row) (few : row.queues ≤ queue_count) {d : Desk} {b w l : List ℕ} (k : StandsBy false d b w l) where
-  whole_length : length (encode_as row (shown d b w l)) ≡ head_length row + length (tail_in row b w l)
-  whole_length = encode_length row (shown d b w l) ∙ ap (λ (t : List ℕ). head_length row + length t) (tail_same d.last.0 d.running.0 b w l row)
+module _ (row : Row) (few : row.queues ≤ queue_count) {d : Desk} {a : Arrays} (k : StandsByIn false d a) where
+  whole_length : length (encode_as row (shown_in d a)) ≡ head_length row + length (tail_in row a)
+  whole_length = encode_length row (shown_in d a) ∙ ap (λ (t : List ℕ). head_length row + length t) (tail_same d a row)
 
-  whole_low : head_length row + length (tail_in row b w l) ≤ longest_image
-  whole_low = let a = whole_length in let c = longest_as row (shown d b w l) few k.consistent in omega arith
+  whole_low : head_length row + length (tail_in row a) ≤ longest_image
+  whole_low = let i = whole_length in let c = longest_as row (shown_in d a) few k.consistent in omega arith
 
   module _ {n : ℕ} (en : (f : ℕ → Bool) → d.filled ≡ word_of width f → n ≡ tally width f) where
-    count_is : n ≡ live (shown d b w l)
-    count_is = en (stands_at b) k.filled ∙ sym (live_is d b w l)
+    count_is : n ≡ live (shown_in d a)
+    count_is = en (stands_at a.table.blocks) k.filled ∙ sym (live_is d a.table.blocks a.table.words a.lines)
 
-    pub write_tail : {o : ℕ} {s : List ℕ} → o ≡ head_length row + entry_length * n + length (waiting_in row l) → longest_image ≤ length s → PutsTail row b w l s o
+    pub write_tail : {o : ℕ} {s : List ℕ} → o ≡ head_length row + entry_length * n + length (waiting_in row a.lines) → longest_image ≤ length s → PutsTail row a s o
     write_tail eo h = record {
       lines = k.whole.lines;
       few = few;
       first =
-          let a = count_is ∙ live_length (shown d b w l) in
-          let c = ap length (queues_are row few b w l) in
+          let i = count_is ∙ live_length (shown_in d a) in
+          let c = ap length (queues_are row few a) in
           omega arith;
-      room = let a = whole_low in omega arith;
+      room = let i = whole_low in omega arith;
       low = whole_low;
     }
 
-    module _ {s t : List ℕ} {e : ℕ} (p : Wrote s (head_length row) (tail_in row b w l) t e) (h : longest_image ≤ length s) where
+    module _ {s t : List ℕ} {e : ℕ} (p : Wrote s (head_length row) (tail_in row a) t e) (h : longest_image ≤ length s) where
       pub write_low : e ≤ longest_image
-      write_low = let a = p.next in let c = whole_low in omega arith
+      write_low = let i = p.next in let c = whole_low in omega arith
 
       pub write_head : head_length row ≤ length t
-      write_head = let a = whole_low in let c = ap length p.bytes ∙ laid_length s (head_length row) (tail_in row b w l) (omega arith) in omega arith
+      write_head = let i = whole_low in let c = ap length p.bytes ∙ laid_length s (head_length row) (tail_in row a) (omega arith) in omega arith
 
-      head_is : head_of row d.last.0 d.running.0 n (lengths_in row l) e ≡ head row (shown d b w l)
-      head_is = rw (count_is, ← lengths_are row few b w l, p.next, tail_same d.last.0 d.running.0 b w l row)
+      head_is : head_of row d.last.0 d.running.0 n (lengths_in row a.lines) e ≡ head row (shown_in d a)
+      head_is = rw (count_is, ← lengths_are row few a, p.next, tail_same d a row)
 
-      head_length_lem : length (head_of row d.last.0 d.running.0 n (lengths_in row l) e) ≡ head_length row
+      head_length_lem : length (head_of row d.last.0 d.running.0 n (lengths_in row a.lines) e) ≡ head_length row
       head_length_lem =
-          let a = length-append (lengths_in row l) (two_bytes e) in
-          let c = lengths_length (line_of places l) row in
+          let i = length-append (lengths_in row a.lines) (two_bytes e) in
+          let c = lengths_length (line_of places a.lines) row in
           omega arith
 
-      pub write_whole : {u : List ℕ} {v : ℕ} → Wrote t 0 (head_of row d.last.0 d.running.0 n (lengths_in row l) e) u v → Written row (shown d b w l) s u e
+      pub write_whole : {u : List ℕ} {v : ℕ} → Wrote t 0 (head_of row d.last.0 d.running.0 n (lengths_in row a.lines) e) u v → Written row (shown_in d a) s u e
       unfolding encode_as
       write_whole q = record {
         size = p.next ∙ sym whole_length;
         bytes =
-            let a = whole_low in
+            let i = whole_low in
             wrote_front p q head_length_lem (omega arith)
-            ∙ ap (λ (z : List ℕ). (z ++ tail_in row b w l) ++ drop e s) head_is
-            ∙ ap (λ (z : List ℕ). (head row (shown d b w l) ++ z) ++ drop e s) (sym (tail_same d.last.0 d.running.0 b w l row));
+            ∙ ap (λ (z : List ℕ). (z ++ tail_in row a) ++ drop e s) head_is
+            ∙ ap (λ (z : List ℕ). (head row (shown_in d a) ++ z) ++ drop e s) (sym (tail_same d a row));
       }

@@ -4,6 +4,7 @@ use Rattle.std.specs.Prelude.{ℕ, ◌+◌, ◌≤◌, ◌<◌, ◌≡◌, List,
 use Rattle.lists.specs.Laid.{Wrote}
 use Rattle.lines.specs.Lines.{Tidy}
 use Rattle.rules.specs.Model.{Place, places, line_count, Model}
+use Rattle.table.specs.declared.Arrays.{Arrays}
 use Rattle.saving.specs.Format.{bodies, contents}
 use Rattle.saving.specs.Longest.{longest_image}
 use Rattle.saving.specs.Parts.{held, here, body_in}
@@ -15,8 +16,8 @@ pub record EntryPut (row : Row) (m : Model) (p : Place) (s : List ℕ) (at o : �
   pub body : u ≡ o + length (bodies row m (here m p))
 
 -- what that asks for
-pub record PutsEntry (row : Row) (b w l : List ℕ) (p : Place) (s : List ℕ) (at o : ℕ) : Type 0 where
-  pub lines : Tidy places line_count l
+pub record PutsEntry (row : Row) (a : Arrays) (p : Place) (s : List ℕ) (at o : ℕ) : Type 0 where
+  pub lines : Tidy places line_count a.lines
   pub place : p < places
-  pub room : at + length (contents row (held b w l) o (here (held b w l) p)) ≤ length s
-  pub low : o + length (body_in row b w l p) ≤ longest_image
+  pub room : at + length (contents row (held a) o (here (held a) p)) ≤ length s
+  pub low : o + length (body_in row a p) ≤ longest_image

@@ -5,13 +5,15 @@ use Rattle.lists.specs.Lists.{none, up_from, only}
 use Rattle.lists.specs.Search.{up_from_step}
 use Rattle.lists.specs.Only.{only_append}
 use Rattle.rules.specs.Model.{Place, places, Model, all_places, lives_at}
-use Rattle.table.specs.Cells.{model_of}
+use Rattle.table.specs.Cells.{model_of, shown_in}
+use Rattle.table.specs.declared.Arrays.{Arrays}
+use Rattle.table.specs.declared.Desk.{Desk}
 use Rattle.saving.specs.Format.{live_places, body_of, bodies, contents, first_body, tail}
 use Rattle.saving.specs.declared.format.Row.{Row}
 
 -- The model of the arrays. Nothing behind the head asks for the last number given or who runs, and so here it is none.
-abbrev pub held : List ℕ → List ℕ → List ℕ → Model
-held b w l = model_of none none b w l
+abbrev pub held : Arrays → Model
+held a = model_of none none a.table.blocks a.table.words a.lines
 
 -- ---- the live places
 -- p, if it lives
@@ -23,17 +25,17 @@ unfoldable pub lives_from : Model → Place → List Place
 lives_from m p = only (lives_at m) (up_from p (places - p))
 
 -- the parts of the arrays' image that the contracts name: the body of p, if it lives; all bodies; the contents, for a first body at o; all behind the head
-abbrev pub body_in : Row → List ℕ → List ℕ → List ℕ → Place → List ℕ
-body_in row b w l p = bodies row (held b w l) (here (held b w l) p)
+abbrev pub body_in : Row → Arrays → Place → List ℕ
+body_in row a p = bodies row (held a) (here (held a) p)
 
-abbrev pub bodies_in : Row → List ℕ → List ℕ → List ℕ → List ℕ
-bodies_in row b w l = bodies row (held b w l) (live_places (held b w l))
+abbrev pub bodies_in : Row → Arrays → List ℕ
+bodies_in row a = bodies row (held a) (live_places (held a))
 
-abbrev pub contents_in : Row → List ℕ → List ℕ → List ℕ → ℕ → List ℕ
-contents_in row b w l o = contents row (held b w l) o (live_places (held b w l))
+abbrev pub contents_in : Row → Arrays → ℕ → List ℕ
+contents_in row a o = contents row (held a) o (live_places (held a))
 
-abbrev pub tail_in : Row → List ℕ → List ℕ → List ℕ → List ℕ
-tail_in row b w l = tail row (held b w l)
+abbrev pub tail_in : Row → Arrays → List ℕ
+tail_in row a = tail row (held a)
 
 -- ---- laws on the live places
 pub lives_start : (m : Model) → lives_from m 0 ≡ live_places m
@@ -61,14 +63,14 @@ contents_append row m o (x ∷ xs) ys =
     rw (e, contents_append row m (o + length (body_of row m x)) xs ys)
 
 -- ---- they are those of the threads and the lines
-module _ (y x : ℕ) (b w l : List ℕ) (row : Row) where
-  bodies_same : (ps : List Place) → bodies row (model_of y x b w l) ps ≡ bodies row (held b w l) ps
+module _ (d : Desk) (a : Arrays) (row : Row) where
+  bodies_same : (ps : List Place) → bodies row (shown_in d a) ps ≡ bodies row (held a) ps
   bodies_same [] = refl
-  bodies_same (p ∷ ps) = ap (λ (t : List ℕ). body_of row (held b w l) p ++ t) (bodies_same ps)
+  bodies_same (p ∷ ps) = ap (λ (t : List ℕ). body_of row (held a) p ++ t) (bodies_same ps)
 
-  contents_same : (o : ℕ) (ps : List Place) → contents row (model_of y x b w l) o ps ≡ contents row (held b w l) o ps
+  contents_same : (o : ℕ) (ps : List Place) → contents row (shown_in d a) o ps ≡ contents row (held a) o ps
   contents_same o [] = refl
-  contents_same o (p ∷ ps) = rw (contents_same (o + length (body_of row (held b w l) p)) ps)
+  contents_same o (p ∷ ps) = rw (contents_same (o + length (body_of row (held a) p)) ps)
 
-  pub tail_same : tail row (model_of y x b w l) ≡ tail row (held b w l)
-  tail_same = rw (contents_same (first_body row (held b w l)) (live_places (held b w l)), bodies_same (live_places (held b w l)))
+  pub tail_same : tail row (shown_in d a) ≡ tail row (held a)
+  tail_same = rw (contents_same (first_body row (held a)) (live_places (held a)), bodies_same (live_places (held a)))

@@ -4,6 +4,7 @@ use Rattle.std.proofs.Common.{ap, ◌∙◌, arith, length-append}
 use Rattle.lists.specs.Laid.{laid, Wrote, Going, going_start, going_room, going_more, going_end}
 use Rattle.lines.specs.Lines.{Tidy}
 use Rattle.rules.specs.Model.{Place, places, line_count, Model}
+use Rattle.table.specs.declared.Arrays.{Arrays}
 use Rattle.saving.specs.Format.{live_places, bodies, contents}
 use Rattle.saving.specs.Longest.{longest_image}
 use Rattle.saving.specs.Parts.{held, here, lives_from, lives_start, lives_step, lives_end, bodies_append, contents_append}
@@ -69,6 +70,6 @@ module _ {row : Row} {m : Model} {s : List ℕ} {at o : ℕ} {t : List ℕ} {r u
   contents_end h = going_end (rw (lives_end m p h) at g.going)
 
 -- what entering a place asks for
-pub enters : {row : Row} {b w l s : List ℕ} {at o : ℕ} {t : List ℕ} {r u : ℕ} {p : Place} → Lists row (held b w l) s at o t r u p → Tidy places line_count l → p < places
-    → o + length (bodies row (held b w l) (live_places (held b w l))) ≤ longest_image → PutsEntry row b w l p t r u
+pub enters : {row : Row} {a : Arrays} {s : List ℕ} {at o : ℕ} {t : List ℕ} {r u : ℕ} {p : Place} → Lists row (held a) s at o t r u p → Tidy places line_count a.lines → p < places
+    → o + length (bodies row (held a) (live_places (held a))) ≤ longest_image → PutsEntry row a p t r u
 enters g k h i = record { lines = k; place = h; room = contents_room g h; low = contents_low g h i }

@@ -3,9 +3,8 @@ use Rattle.std.specs.Prelude.{ℕ, ◌+◌, ◌≤◌, ◌<◌, ◌≡◌, refl,
 use Rattle.std.proofs.Common.{sym, ap, ◌∙◌, arith, length-append, length-take-le, take_at}
 use Rattle.lists.specs.Sizes.{queue_count}
 use Rattle.lists.specs.Laid.{laid, Wrote, laid_front}
-use Rattle.table.specs.Cells.{shown, StandsBy}
-use Rattle.table.specs.declared.Desk.{Desk}
-use Rattle.nucleus.specs.View.{desk_of, view, Consists}
+use Rattle.table.specs.Cells.{StandsByIn}
+use Rattle.nucleus.specs.View.{view, Consists}
 use Rattle.nucleus.specs.declared.State.{State}
 use Rattle.saving.specs.Format.{newest, encode}
 use Rattle.saving.specs.Written.{Written}
@@ -16,16 +15,16 @@ pub save_14 : {s : State} (before : List ℕ) → (Consists s → ⊥) → Saves
 save_14 before n = inconsistent n (record { code_is = refl; length_is = refl; bytes_are = refl })
 
 -- what is written need be consistent by the old rules only
-pub save_stands : {s : State} {d : Desk} → Consists s → d ≡ desk_of s → StandsBy false d s.blocks s.words s.lines
-save_stands k e = rw e (record { whole = k.whole; filled = k.filled; consistent = k.consistent.old })
+pub save_stands : {s : State} → Consists s → StandsByIn false s.desk s.arrays
+save_stands k = record { whole = k.whole; filled = k.filled; consistent = k.consistent.old }
 
 pub save_few : {row : Row} → row ≡ newest → row.queues ≤ queue_count
 save_few e = rw e (omega arith)
 
 -- the array is t, and the image its first r bytes
-module _ {s : State} (k : Consists s) {d : Desk} (e : d ≡ desk_of s) {row : Row} (f : row ≡ newest) {i t : List ℕ} {r : ℕ} (p : Written row (shown d s.blocks s.words s.lines) i t r) where
+module _ {s : State} (k : Consists s) {row : Row} (f : row ≡ newest) {i t : List ℕ} {r : ℕ} (p : Written row (view s) i t r) where
   image : Written newest (view s) i t r
-  image = rw (e, f) at p
+  image = rw f at p
 
   pub image_fits : r ≤ length t
   image_fits = let a = image.size in let b = ap length image.bytes ∙ length-append (encode (view s)) (drop r i) in omega arith

@@ -7,6 +7,7 @@ use Rattle.lists.specs.Sizes.{queue_count}
 use Rattle.lists.specs.Bytes.{two_bytes}
 use Rattle.lines.specs.Lines.{line_of, Tidy}
 use Rattle.rules.specs.Model.{places, line_count, Model}
+use Rattle.table.specs.declared.Arrays.{Arrays}
 use Rattle.saving.specs.Format.{head_length, queues_in, sizes, joined, first_body, encode_as}
 use Rattle.saving.specs.Longest.{longest_image}
 use Rattle.saving.specs.Parts.{held, bodies_in, contents_in, tail_in}
@@ -18,18 +19,18 @@ pub record Written (row : Row) (m : Model) (s t : List ℕ) (r : ℕ) : Type 0 w
   pub bytes : t ≡ encode_as row m ++ drop r s
 
 -- what the contents ask for
-pub record PutsContents (row : Row) (b w l s : List ℕ) (at o : ℕ) : Type 0 where
-  pub lines : Tidy places line_count l
-  pub room : at + length (contents_in row b w l o) ≤ length s
-  pub low : o + length (bodies_in row b w l) ≤ longest_image
+pub record PutsContents (row : Row) (a : Arrays) (s : List ℕ) (at o : ℕ) : Type 0 where
+  pub lines : Tidy places line_count a.lines
+  pub room : at + length (contents_in row a o) ≤ length s
+  pub low : o + length (bodies_in row a) ≤ longest_image
 
 -- and all behind the head
-pub record PutsTail (row : Row) (b w l s : List ℕ) (o : ℕ) : Type 0 where
-  pub lines : Tidy places line_count l
+pub record PutsTail (row : Row) (a : Arrays) (s : List ℕ) (o : ℕ) : Type 0 where
+  pub lines : Tidy places line_count a.lines
   pub few : row.queues ≤ queue_count
-  pub first : o ≡ first_body row (held b w l)
-  pub room : head_length row + length (tail_in row b w l) ≤ length s
-  pub low : head_length row + length (tail_in row b w l) ≤ longest_image
+  pub first : o ≡ first_body row (held a)
+  pub room : head_length row + length (tail_in row a) ≤ length s
+  pub low : head_length row + length (tail_in row a) ≤ longest_image
 
 -- the lengths of a row's queues in the array of lines, and their places
 abbrev pub lengths_in : Row → List ℕ → List ℕ

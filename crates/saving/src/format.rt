@@ -88,14 +88,14 @@ pub fn row_of(edition: u8) -> Row
 {
     if NEWEST < edition {
         return Row {
-            edition: edition,
+            edition,
             queues: 0,
             parents: false,
             places: 0,
         };
     }
     Row {
-        edition: edition,
+        edition,
         queues: QUEUES_BY[edition as usize],
         parents: PARENTS_BY[edition as usize],
         places: PLACES_BY[edition as usize],

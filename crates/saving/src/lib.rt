@@ -8,7 +8,7 @@ ghost use Rattle.lists.specs.Lists.{bit};
 ghost use Rattle.lists.specs.Bytes.{two_bytes, word_bytes};
 ghost use Rattle.lists.specs.Laid.{Wrote};
 ghost use Rattle.lines.specs.Lines.{line_of, Tidy};
-ghost use Rattle.table.specs.Cells.{as_thread, shown, StandsBy};
+ghost use Rattle.table.specs.Cells.{as_thread, shown_in, StandsByIn};
 ghost use Rattle.nucleus.specs.View.{Consists};
 ghost use Rattle.saving.specs.Format.{head_length, entry_length, thread_bytes, parent_bytes};
 ghost use Rattle.saving.specs.Longest.{longest_image};
@@ -21,7 +21,7 @@ use format::{BODY, ENTRY, LENGTHS_AT, PARENT, Row, TOTAL};
 use lines::Links;
 use nucleus::State;
 use rules::{Number, Place, codes};
-use table::{Blocks, Desk, Thread, Words};
+use table::{Arrays, Desk, Thread};
 
 pub mod format;
 
@@ -47,10 +47,10 @@ fn measure(l: &Links, q: u8) -> u8
     ensures { result ≡ length (line_of places l.now q) }
 {
     let mut n: u8 = 0;
-    let mut p = lines::first(l, q);
-    while p != lines::NONE {
+    let mut next = lines::first(l, q);
+    while let Some(p) = next {
         n += 1;
-        p = lines::after(l, p);
+        next = lines::after(l, p);
     }
     n
 }
@@ -60,14 +60,14 @@ fn put_line(out: &mut [u8], at: usize, l: &Links, q: u8) -> usize
     requires { Tidy places line_count l.now × (q < line_count) × (at + length (line_of places l.now q) ≤ length out.old) }
     ensures { Wrote out.old at (line_of places l.now q) out.new result }
 {
-    let mut next = at;
-    let mut p = lines::first(l, q);
-    while p != lines::NONE {
-        out[next] = p;
-        next += 1;
-        p = lines::after(l, p);
+    let mut end = at;
+    let mut next = lines::first(l, q);
+    while let Some(p) = next {
+        out[end] = p;
+        end += 1;
+        next = lines::after(l, p);
     }
-    next
+    end
 }
 
 // Two bytes and a word: a thread's standing, partner and word are written so, and its answer.
@@ -121,24 +121,16 @@ fn put_inbox(out: &mut [u8], at: usize, row: Row, n: Number, l: &Links, q: u8) -
 }
 
 // Writes the body of the place p, if a thread lives there.
-fn put_body(
-    out: &mut [u8],
-    at: usize,
-    row: Row,
-    b: &Blocks,
-    w: &Words,
-    l: &Links,
-    p: Place,
-) -> usize
-    requires { Tidy places line_count l.now × (p.0 < places) × (at + length (body_in row b.now w.now l.now p.0) ≤ length out.old) }
-    ensures { Wrote out.old at (body_in row b.now w.now l.now p.0) out.new result }
+fn put_body(out: &mut [u8], at: usize, row: Row, a: &Arrays, p: Place) -> usize
+    requires { Tidy places line_count a.now.lines × (p.0 < places) × (at + length (body_in row a.now p.0) ≤ length out.old) }
+    ensures { Wrote out.old at (body_in row a.now p.0) out.new result }
 {
-    let t = table::read(b, w, p);
+    let t = a.table.read(p);
     if t.standing == rules::EMPTY {
         return at;
     }
     let next = put_thread(out, at, t);
-    put_inbox(out, next, row, t.parent, l, table::INBOX_LINES + p.0)
+    put_inbox(out, next, row, t.parent, &a.lines, table::INBOX_LINES + p.0)
 }
 
 // Where the next entry of the contents goes, and where the body that it names starts.
@@ -149,25 +141,17 @@ struct Cursor {
 }
 
 // Writes the entry of the place p, if a thread lives there.
-fn put_entry(
-    out: &mut [u8],
-    c: Cursor,
-    row: Row,
-    b: &Blocks,
-    w: &Words,
-    l: &Links,
-    p: Place,
-) -> Cursor
-    requires { PutsEntry row b.now w.now l.now p.0 out.old c.at c.body }
-    ensures { EntryPut row (held b.now w.now l.now) p.0 out.old c.at c.body out.new result.at result.body }
+fn put_entry(out: &mut [u8], c: Cursor, row: Row, a: &Arrays, p: Place) -> Cursor
+    requires { PutsEntry row a.now p.0 out.old c.at c.body }
+    ensures { EntryPut row (held a.now) p.0 out.old c.at c.body out.new result.at result.body }
 {
-    let t = table::read(b, w, p);
+    let t = a.table.read(p);
     if t.standing == rules::EMPTY {
         return c;
     }
     let line = entry(p, t.number, c.body);
     let next = put(out, c.at, &line);
-    let n = measure(l, table::INBOX_LINES + p.0);
+    let n = measure(&a.lines, table::INBOX_LINES + p.0);
     Cursor {
         at: next,
         body: c.body + format::body_length(row) as u16 + u16::from(n),
@@ -177,33 +161,25 @@ fn put_entry(
 // Writes the contents at a position, for a first body at `first`.
 // This loop and those below differ in their bodies, of a line or two each: one function with a closure would ask each caller for the contract of its closure,
 // which is longer than the loop.
-fn put_contents(
-    out: &mut [u8],
-    at: usize,
-    row: Row,
-    b: &Blocks,
-    w: &Words,
-    l: &Links,
-    first: u16,
-) -> usize
-    requires { PutsContents row b.now w.now l.now out.old at first }
-    ensures { Wrote out.old at (contents_in row b.now w.now l.now first) out.new result }
+fn put_contents(out: &mut [u8], at: usize, row: Row, a: &Arrays, first: u16) -> usize
+    requires { PutsContents row a.now out.old at first }
+    ensures { Wrote out.old at (contents_in row a.now first) out.new result }
 {
     let mut c = Cursor { at, body: first };
     for p in 0..lines::PLACES as u8 {
-        c = put_entry(out, c, row, b, w, l, Place(p));
+        c = put_entry(out, c, row, a, Place(p));
     }
     c.at
 }
 
 // Writes the bodies.
-fn put_bodies(out: &mut [u8], at: usize, row: Row, b: &Blocks, w: &Words, l: &Links) -> usize
-    requires { Tidy places line_count l.now × (at + length (bodies_in row b.now w.now l.now) ≤ length out.old) }
-    ensures { Wrote out.old at (bodies_in row b.now w.now l.now) out.new result }
+fn put_bodies(out: &mut [u8], at: usize, row: Row, a: &Arrays) -> usize
+    requires { Tidy places line_count a.now.lines × (at + length (bodies_in row a.now) ≤ length out.old) }
+    ensures { Wrote out.old at (bodies_in row a.now) out.new result }
 {
     let mut next = at;
     for p in 0..lines::PLACES as u8 {
-        next = put_body(out, next, row, b, w, l, Place(p));
+        next = put_body(out, next, row, a, Place(p));
     }
     next
 }
@@ -221,14 +197,14 @@ fn put_queues(out: &mut [u8], at: usize, row: Row, l: &Links) -> usize
 }
 
 // Writes all behind the head: contents, queues, bodies.
-fn put_tail(out: &mut [u8], row: Row, b: &Blocks, w: &Words, l: &Links, first: u16) -> usize
-    requires { PutsTail row b.now w.now l.now out.old first }
-    ensures { Wrote out.old (head_length row) (tail_in row b.now w.now l.now) out.new result }
+fn put_tail(out: &mut [u8], row: Row, a: &Arrays, first: u16) -> usize
+    requires { PutsTail row a.now out.old first }
+    ensures { Wrote out.old (head_length row) (tail_in row a.now) out.new result }
 {
     let at = format::head_length(row);
-    let queues = put_contents(out, at, row, b, w, l, first);
-    let next = put_queues(out, queues, row, l);
-    put_bodies(out, next, row, b, w, l)
+    let queues = put_contents(out, at, row, a, first);
+    let next = put_queues(out, queues, row, &a.lines);
+    put_bodies(out, next, row, a)
 }
 
 // Where the first body starts: behind the head, an entry for each that lives, and all that wait in a row's queues.
@@ -268,14 +244,14 @@ fn put_head(out: &mut [u8], row: Row, l: &Links, d: Desk, live: u8, total: u16) 
 
 // Writes the image of a state that is consistent, by the old rules at least, in the edition of the row, and gives its length. The head comes last: it tells the
 // total.
-pub fn write(row: Row, b: &Blocks, w: &Words, l: &Links, d: Desk, out: &mut [u8]) -> usize
-    requires { (row.queues ≤ queue_count) × StandsBy false d b.now w.now l.now × (longest_image ≤ length out.old) }
-    ensures { Written row (shown d b.now w.now l.now) out.old out.new result }
+pub fn write(row: Row, a: &Arrays, d: Desk, out: &mut [u8]) -> usize
+    requires { (row.queues ≤ queue_count) × StandsByIn false d a.now × (longest_image ≤ length out.old) }
+    ensures { Written row (shown_in d a.now) out.old out.new result }
 {
     let live = filled::count(d.filled);
-    let first = first_body(row, l, live);
-    let end = put_tail(out, row, b, w, l, first);
-    put_head(out, row, l, d, live, end as u16);
+    let first = first_body(row, &a.lines, live);
+    let end = put_tail(out, row, a, first);
+    put_head(out, row, &a.lines, d, live, end as u16);
     end
 }
 
@@ -292,12 +268,8 @@ pub fn keep(s: State, buffer: &mut [u8]) -> Saved
     requires { Consists s }
     ensures { Saves s buffer.old result.code result.length buffer.new }
 {
-    let d = s.desk();
-    let b = s.blocks;
-    let w = s.words;
-    let l = s.lines;
     let mut image = [0u8; LONGEST];
-    let n = write(format::newest(), &b, &w, &l, d, &mut image);
+    let n = write(format::newest(), &s.arrays, s.desk, &mut image);
     if buffer.len() < n {
         return Saved {
             code: codes::SHORT,

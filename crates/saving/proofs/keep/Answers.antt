@@ -5,25 +5,25 @@ use Rattle.saving.proofs.keep.Goals as goal
 
 pub write-n-requires : goal.write-n-requires
 write-n-requires c =
-    (save_few c.newest.ensures, save_stands c.requires c.desk-d.ensures, omega arith)
+    (save_few c.newest.ensures, save_stands c.requires, omega arith)
 
 pub returns-then-buffer-n : goal.returns-then-buffer-n
 returns-then-buffer-n c =
-    save_7 c.requires c.desk-d.ensures c.newest.ensures c.write-n.ensures c.args.buffer.now c.if-buffer-n.true
+    save_7 c.requires c.newest.ensures c.write-n.ensures c.args.buffer.now c.if-buffer-n.true
 
 pub slice_bounds-image-end : goal.slice_bounds-image-end
 slice_bounds-image-end c =
-    image_fits c.requires c.desk-d.ensures c.newest.ensures c.write-n.ensures
+    image_fits c.requires c.newest.ensures c.write-n.ensures
 
 pub slice_bounds-put-end : goal.slice_bounds-put-end
 slice_bounds-put-end c =
-    image_size c.requires c.desk-d.ensures c.newest.ensures c.write-n.ensures
+    image_size c.requires c.newest.ensures c.write-n.ensures
 
 pub put-requires : goal.put-requires
 put-requires c =
-    save_room c.requires c.desk-d.ensures c.newest.ensures c.write-n.ensures c.args.buffer.now c.if-buffer-n.false
+    save_room c.requires c.newest.ensures c.write-n.ensures c.args.buffer.now c.if-buffer-n.false
 
 pub returns : goal.returns
 returns c =
-    save_0 c.requires c.desk-d.ensures c.newest.ensures c.write-n.ensures c.args.buffer.now c.if-buffer-n.false
+    save_0 c.requires c.newest.ensures c.write-n.ensures c.args.buffer.now c.if-buffer-n.false
     c.put.ensures

@@ -1,40 +1,38 @@
 -- `measure` meets its contract. The loop's invariant: what was counted and what is left is the line.
-use lib.ListN.{length}
 use native.Mathlib.Omega.{arith}
-use mathlib.Core.Path.{ap}
-use Rattle.lines.specs.Passes.{line_short, walk_end, walk_place, walk_on, count_start, count_room, count_more, count_end}
+use mathlib.Core.Path.{refl}
+use Rattle.lists.specs.Known.{known_none}
+use Rattle.lines.specs.Passes.{line_short, walk_end, walk_place, walk_on, walk_less, count_start, count_room, count_more, count_end}
+use Rattle.saving.specs.Lining.{walk_at}
 use Rattle.saving.proofs.measure.Goals as goal
 
-pub first-p-requires : goal.first-p-requires
-first-p-requires c = c.requires
-
-pub loop-p-init : goal.loop-p-init
-loop-p-init c = count_start _ _ _ _ c.first-p.ensures
+pub loop-next-init : goal.loop-next-init
+loop-next-init c = (_, c.first-next.ensures, count_start _ _ _ _ refl)
 
 pub overflow_add-n : goal.overflow_add-n
 overflow_add-n c =
-    let f = c.requires in
-    let a = line_short f.0 (omega arith) f.1 in
-    let b = count_room c.loop-p.invariant c.loop-p-test.true in
+    let g = walk_at c.loop-next.invariant c.in-Some.is in
+    let a = line_short c.requires.0 (omega arith) c.requires.1 in
+    let b = count_room g.0 g.1 in
     omega arith
 
-pub after-p-requires : goal.after-p-requires
-after-p-requires c =
-    let f = c.requires in
-    (f.0, walk_place f.0 (omega arith) f.1 c.loop-p.invariant.reaches c.loop-p-test.true)
+pub after-next-requires : goal.after-next-requires
+after-next-requires c =
+    let g = walk_at c.loop-next.invariant c.in-Some.is in
+    (c.requires.0, walk_place c.requires.0 (omega arith) c.requires.1 g.0.reaches g.1)
 
-pub loop-p-smaller : goal.loop-p-smaller
-loop-p-smaller c =
-    let f = c.requires in
-    let z = ap length (walk_on f.0 (omega arith) f.1 c.loop-p.invariant.reaches c.loop-p-test.true c.after-p.ensures).left_is in
-    omega arith
+pub loop-next-smaller : goal.loop-next-smaller
+loop-next-smaller c =
+    let g = walk_at c.loop-next.invariant c.in-Some.is in
+    rw c.in-Some.is (walk_less c.requires.0 (omega arith) c.requires.1 g.0.reaches g.1 c.after-next.ensures)
 
-pub loop-p-preserved : goal.loop-p-preserved
-loop-p-preserved c =
-    let f = c.requires in
-    count_more c.loop-p.invariant (walk_on f.0 (omega arith) f.1 c.loop-p.invariant.reaches c.loop-p-test.true c.after-p.ensures)
+pub loop-next-preserved : goal.loop-next-preserved
+loop-next-preserved c =
+    let g = walk_at c.loop-next.invariant c.in-Some.is in
+    let s = walk_on c.requires.0 (omega arith) c.requires.1 g.0.reaches g.1 c.after-next.ensures in
+    (s.0, s.1, count_more g.0 s.2)
 
 pub returns : goal.returns
 returns c =
-    let f = c.requires in
-    count_end c.loop-p.invariant (walk_end f.0 (omega arith) f.1 (omega (arith, c.loop-p-test.false)))
+    let v = c.loop-next.invariant in
+    count_end v.2 (walk_end c.requires.0 (omega arith) c.requires.1 (known_none v.1 c.in_default.is))

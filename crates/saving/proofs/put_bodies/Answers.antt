@@ -4,7 +4,7 @@ use Rattle.saving.specs.Places.{bodies_start, bodies_room, bodies_more, bodies_e
 use Rattle.saving.proofs.put_bodies.Goals as goal
 
 pub loop-p-init : goal.loop-p-init
-loop-p-init c = let a = c.args in bodies_start a.row (held a.b.now a.w.now a.l.now) a.out.now a.at c.requires.1
+loop-p-init c = let x = c.args in bodies_start x.row (held x.a.now) x.out.now x.at c.requires.1
 
 pub put_body-next-requires : goal.put_body-next-requires
 put_body-next-requires c =

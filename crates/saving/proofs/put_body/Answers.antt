@@ -5,22 +5,22 @@ use Rattle.saving.proofs.put_body.Goals as goal
 
 pub returns-then-t-eq-EMPTY : goal.returns-then-t-eq-EMPTY
 returns-then-t-eq-EMPTY c =
-    let a = c.args in
-    body_none a.row a.b.now a.w.now a.l.now a.p.0 c.requires.1 c.read-t.ensures c.if-t-eq-EMPTY.true a.out.now a.at
+    let x = c.args in
+    body_none x.row x.a.now x.p.0 c.requires.1 c.read-t.ensures c.if-t-eq-EMPTY.true x.out.now x.at
 
 pub put_thread-next-requires : goal.put_thread-next-requires
 put_thread-next-requires c =
-    let a = c.args in
-    thread_room a.row a.b.now a.w.now a.l.now a.p.0 c.requires.1 c.read-t.ensures c.if-t-eq-EMPTY.false a.out.now a.at
+    let x = c.args in
+    thread_room x.row x.a.now x.p.0 c.requires.1 c.read-t.ensures c.if-t-eq-EMPTY.false x.out.now x.at
     c.requires.2
 
 pub put_inbox-requires : goal.put_inbox-requires
 put_inbox-requires c =
-    let a = c.args in
-    (search rules, search rules, inbox_room a.row a.b.now a.w.now a.l.now a.p.0 c.requires.1 c.read-t.ensures c.if-t-eq-EMPTY.false a.out.now a.at c.requires.2 c.put_thread-next.ensures)
+    let x = c.args in
+    (search rules, search rules, inbox_room x.row x.a.now x.p.0 c.requires.1 c.read-t.ensures c.if-t-eq-EMPTY.false x.out.now x.at c.requires.2 c.put_thread-next.ensures)
 
 pub returns : goal.returns
 returns c =
-    let a = c.args in
-    body_whole a.row a.b.now a.w.now a.l.now a.p.0 c.requires.1 c.read-t.ensures c.if-t-eq-EMPTY.false a.out.now a.at
+    let x = c.args in
+    body_whole x.row x.a.now x.p.0 c.requires.1 c.read-t.ensures c.if-t-eq-EMPTY.false x.out.now x.at
     c.requires.2 c.put_thread-next.ensures c.put_inbox.ensures

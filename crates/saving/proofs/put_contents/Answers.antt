@@ -5,8 +5,8 @@ use Rattle.saving.proofs.put_contents.Goals as goal
 
 pub loop-p-init : goal.loop-p-init
 loop-p-init c =
-    let a = c.args in
-    contents_start a.row (held a.b.now a.w.now a.l.now) a.out.now a.at a.first c.requires.room
+    let x = c.args in
+    contents_start x.row (held x.a.now) x.out.now x.at x.first c.requires.room
 
 pub put_entry-c-requires : goal.put_entry-c-requires
 put_entry-c-requires c =

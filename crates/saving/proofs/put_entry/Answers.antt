@@ -4,18 +4,18 @@ use Rattle.saving.proofs.put_entry.Goals as goal
 
 pub returns-then-t-eq-EMPTY : goal.returns-then-t-eq-EMPTY
 returns-then-t-eq-EMPTY c =
-    let a = c.args in
-    entry_none a.row a.b.now a.w.now a.l.now a.p.0 c.requires.place c.read-t.ensures c.if-t-eq-EMPTY.true a.out.now a.c.at a.c.body
+    let x = c.args in
+    entry_none x.row x.a.now x.p.0 c.requires.place c.read-t.ensures c.if-t-eq-EMPTY.true x.out.now x.c.at x.c.body
 
 pub put-next-requires : goal.put-next-requires
 put-next-requires c =
-    let a = c.args in
-    entry_room a.row a.b.now a.w.now a.l.now a.p.0 c.requires.place c.read-t.ensures c.if-t-eq-EMPTY.false c.requires
+    let x = c.args in
+    entry_room x.row x.a.now x.p.0 c.requires.place c.read-t.ensures c.if-t-eq-EMPTY.false c.requires
     c.entry-line.ensures
 
 pub returns : goal.returns
 returns c =
-    let a = c.args in
-    entry_whole a.row a.b.now a.w.now a.l.now a.p.0 c.requires.place c.read-t.ensures c.if-t-eq-EMPTY.false c.requires
+    let x = c.args in
+    entry_whole x.row x.a.now x.p.0 c.requires.place c.read-t.ensures c.if-t-eq-EMPTY.false c.requires
     c.entry-line.ensures c.put-next.ensures c.measure-n.ensures c.from.ensures
     c.body_length.ensures.0

@@ -1,45 +1,42 @@
 -- `put_line` meets its contract. The loop's invariant: what is left of the line is left to write.
-use lib.ListN.{length}
 use borrow.Author.Rules.{rules}
-use mathlib.Core.Path.{ap}
 use native.Mathlib.Omega.{arith}
-use Rattle.lines.specs.Passes.{walk_end, walk_place, walk_on}
-use Rattle.saving.specs.Lining.{lining_start, lining_room, lining_more, lining_length, lining_end}
+use Rattle.lists.specs.Known.{known_none}
+use Rattle.lines.specs.Passes.{walk_end, walk_place, walk_on, walk_less}
+use Rattle.saving.specs.Lining.{walk_at, lining_start, lining_room, lining_more, lining_length, lining_end}
 use Rattle.saving.proofs.put_line.Goals as goal
 
-pub first-p-requires : goal.first-p-requires
-first-p-requires c = let f = c.requires in (f.0, f.1)
+pub loop-next-init : goal.loop-next-init
+loop-next-init c = lining_start _ _ _ _ c.first-next.ensures c.requires.2
 
-pub loop-p-init : goal.loop-p-init
-loop-p-init c = lining_start _ _ _ _ _ c.first-p.ensures c.requires.2
+pub bounds-out-end : goal.bounds-out-end
+bounds-out-end c = let g = walk_at c.loop-next.invariant c.in-Some.is in lining_room g.0 g.1
 
-pub bounds-out-next : goal.bounds-out-next
-bounds-out-next c = lining_room c.loop-p.invariant c.loop-p-test.true
+pub overflow_add-end : goal.overflow_add-end
+overflow_add-end c =
+    let g = walk_at c.loop-next.invariant c.in-Some.is in
+    let b = lining_room g.0 g.1 in
+    search rules
 
-pub overflow_add-next : goal.overflow_add-next
-overflow_add-next c = let b = lining_room c.loop-p.invariant c.loop-p-test.true in search rules
+pub after-next-requires : goal.after-next-requires
+after-next-requires c =
+    let g = walk_at c.loop-next.invariant c.in-Some.is in
+    (c.requires.0, walk_place c.requires.0 (omega arith) c.requires.1 g.0.reaches g.1)
 
-pub after-p-requires : goal.after-p-requires
-after-p-requires c =
-    let f = c.requires in
-    (f.0, walk_place f.0 (omega arith) f.1 c.loop-p.invariant.reaches c.loop-p-test.true)
+pub loop-next-smaller : goal.loop-next-smaller
+loop-next-smaller c =
+    let g = walk_at c.loop-next.invariant c.in-Some.is in
+    rw c.in-Some.is (walk_less c.requires.0 (omega arith) c.requires.1 g.0.reaches g.1 c.after-next.ensures)
 
-pub loop-p-smaller : goal.loop-p-smaller
-loop-p-smaller c =
-    let f = c.requires in
-    let z = ap length (walk_on f.0 (omega arith) f.1 c.loop-p.invariant.reaches c.loop-p-test.true c.after-p.ensures).left_is in
-    omega arith
-
-pub loop-p-preserved : goal.loop-p-preserved
-loop-p-preserved c =
-    let f = c.requires in
-    lining_more c.loop-p.invariant c.loop-p-test.true
-    (walk_on f.0 (omega arith) f.1 c.loop-p.invariant.reaches c.loop-p-test.true c.after-p.ensures)
+pub loop-next-preserved : goal.loop-next-preserved
+loop-next-preserved c =
+    let g = walk_at c.loop-next.invariant c.in-Some.is in
+    lining_more g.0 g.1 (walk_on c.requires.0 (omega arith) c.requires.1 g.0.reaches g.1 c.after-next.ensures)
 
 pub shape_of-out : goal.shape_of-out
-shape_of-out c = lining_length c.loop-p.invariant c.requires.2
+shape_of-out c = lining_length c.loop-next.invariant.2 c.requires.2
 
 pub returns : goal.returns
 returns c =
-    let f = c.requires in
-    lining_end c.loop-p.invariant (walk_end f.0 (omega arith) f.1 (omega (arith, c.loop-p-test.false)))
+    let v = c.loop-next.invariant in
+    lining_end v.2 (walk_end c.requires.0 (omega arith) c.requires.1 (known_none v.1 c.in_default.is))
