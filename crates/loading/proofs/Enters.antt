@@ -9,6 +9,8 @@ use Rattle.lines.specs.Lines.{line_of, Clear}
 use Rattle.rules.specs.Model.{places, line_count, Thread, Model, inbox, thread, line, live}
 use Rattle.rules.specs.Consistent.{ConsistentBy}
 use Rattle.table.specs.Cells.{model_of, Filled}
+use Rattle.table.specs.declared.Arrays.{Arrays}
+use Rattle.table.specs.declared.Table.{Table}
 use Rattle.table.specs.Clean.{Sized, Emptied}
 use Rattle.table.specs.Stores.{Stored}
 use Rattle.nucleus.specs.View.{ShowsBy}
@@ -61,7 +63,7 @@ queues_read {row} {s} {l} {l₁} {q} U e = record {
 -- ---- an entry
 
 -- an entry that names no place of the row is none of an image
-pub entered_no : {row : Row} {s b w l : List ℕ} {i e : ℕ} → Sized b w → e ≡ entry_at row i → row.places ≤ get_or s e 0 → Entered row s i (i + 1) b w l b w l
+pub entered_no : {row : Row} {s : List ℕ} {i e : ℕ} {a : Arrays} → Sized a.table.blocks a.table.words → e ≡ entry_at row i → row.places ≤ get_or s e 0 → Entered row s i (i + 1) a a
 entered_no {row} {s} {i = i} k z h = record {
   sized = k;
   parentless = λ _ f. f;
@@ -69,9 +71,10 @@ entered_no {row} {s} {i = i} k z h = record {
   reads = λ strict m I g U. let t : i < live m = omega arith in let e = ap (λ (x : ℕ). get_or s x 0) z ∙ p_is I t in let v = p_named I t in absurd (omega arith);
 }
 
-module _ {row : Row} {s b w l b' w' l' : List ℕ} {i e p n o c : ℕ} (W : Stored b w p (λ _. thread_in row s n o) b' w') (j : Joined s (o + body_length row) c (queue_count + p) c l l')
+module _ {row : Row} {s : List ℕ} {i e p n o c : ℕ} {a a' : Arrays} (W : Stored a.table.blocks a.table.words p (λ _. thread_in row s n o) a'.table.blocks a'.table.words)
+    (j : Joined s (o + body_length row) c (queue_count + p) c a.lines a'.lines)
     (low : p < row.places) (ee : e ≡ entry_at row i) (ep : p ≡ get_or s e 0) (en : n ≡ get_or s (e + 1) 0) (eo : o ≡ two_at s (e + 2)) (ec : c ≡ get_or s (o + inbox_length_at) 0) where
-  module _ (strict : Bool) (m : Model) (I : ImageAsBy strict row m s) (g : i < live m) (U : Upto m (take i (live_places m)) b w l) where
+  module _ (strict : Bool) (m : Model) (I : ImageAsBy strict row m s) (g : i < live m) (U : Upto m (take i (live_places m)) a) where
     abbrev who : ℕ
     who = get_or (live_places m) i 0
 
@@ -94,46 +97,46 @@ module _ {row : Row} {s b w l b' w' l' : List ℕ} {i e p n o c : ℕ} (W : Stor
     vc = ec ∙ ap (λ (x : ℕ). get_or s (x + inbox_length_at) 0) vo ∙ inbox_length I fore who aft (split I g)
 
     vq : queue_count + p ≡ inbox who
-    vq = let z = vp in let a = inbox_at who in omega arith
+    vq = let z = vp in let f = inbox_at who in omega arith
 
-    one_more : Upto m (take (suc i) (live_places m)) b' w' l'
+    one_more : Upto m (take (suc i) (live_places m)) a'
     one_more = rw (take-suc (live_places m) i 0 (within I g)) (record {
       seats = seats_more U.seats (rw (vp, vn, vo) at W) (thread_is I fore who aft (split I g));
       filed =
-          filed_more (old_of strict I.consistent) U.filed (inbox who) (let v = p_low I g in let a = inbox_at who in omega arith) (opened_inbox fore who ∙ p_new I g) (rw vq at j)
+          filed_more (old_of strict I.consistent) U.filed (inbox who) (let v = p_low I g in let f = inbox_at who in omega arith) (opened_inbox fore who ∙ p_new I g) (rw vq at j)
           (rw (vo, vc) (inbox_is I fore who aft (split I g))) vc (opened (fore ++ (who ∷ []))) (opened_here who fore) (opened_there who fore);
     })
 
-  pub entered_one : Entered row s i (i + 1) b w l b' w' l'
+  pub entered_one : Entered row s i (i + 1) a a'
   entered_one = rw add-one (record { sized = record { blocks = W.blocks; words = W.words }; parentless = λ z. parentless_more W (rw z); beyond = nobody_more W low; reads = λ strict m I g U. one_more strict m I (omega arith) U })
 
 -- ---- all entries
-pub entered_none : {row : Row} {s b w l : List ℕ} → Sized b w → Entered row s 0 0 b w l b w l
+pub entered_none : {row : Row} {s : List ℕ} {a : Arrays} → Sized a.table.blocks a.table.words → Entered row s 0 0 a a
 entered_none k = record { sized = k; parentless = λ _ f. f; beyond = λ f. f; reads = λ strict m I g U. U }
 
-pub entered_more : {row : Row} {s : List ℕ} {i : ℕ} {b w l b₁ w₁ l₁ b₂ w₂ l₂ : List ℕ} → Entered row s 0 i b w l b₁ w₁ l₁ → Entered row s i (i + 1) b₁ w₁ l₁ b₂ w₂ l₂ → Entered row s 0 (i + 1) b w l b₂ w₂ l₂
+pub entered_more : {row : Row} {s : List ℕ} {i : ℕ} {a a₁ a₂ : Arrays} → Entered row s 0 i a a₁ → Entered row s i (i + 1) a₁ a₂ → Entered row s 0 (i + 1) a a₂
 entered_more E F = record { sized = F.sized; parentless = λ e f. F.parentless e (E.parentless e f); beyond = λ f. F.beyond (E.beyond f); reads = λ strict m I g U. F.reads strict m I g (E.reads strict m I (omega arith) U) }
 
 -- ---- the whole
-module _ {row : Row} {s b w l b' w' l₁ l' : List ℕ} {n f y x : ℕ} (e : Emptied b w places) (k : Clear places line_count l) (q : QueuesRead row s l l₁) (E : Entered row s 0 n b w l₁ b' w' l')
-    (en : n ≡ get_or s 3 0) (ef : Filled f b') (ey : y ≡ get_or s 1 0) (ex : x ≡ get_or s 2 0) where
+module _ {row : Row} {s l l₁ : List ℕ} {t : Table} {a : Arrays} {n f y x : ℕ} (e : Emptied t.blocks t.words places) (k : Clear places line_count l) (q : QueuesRead row s l l₁)
+    (E : Entered row s 0 n (record { table = t; lines = l₁ }) a) (en : n ≡ get_or s 3 0) (ef : Filled f a.table.blocks) (ey : y ≡ get_or s 1 0) (ex : x ≡ get_or s 2 0) where
   module _ (strict : Bool) (m : Model) (I : ImageAsBy strict row m s) where
-    all_in : Upto m (live_places m) b' w' l'
+    all_in : Upto m (live_places m) a
     all_in =
         let v = live_length m in
         let z = en ∙ live_is I in
         rw (take_all n (live_places m) (omega arith)) at (E.reads strict m I (omega arith) (record { seats = seats_none m e; filed = q.filed strict m I k }))
 
-    is_seen : model_of y x b' w' l' ≡ m
+    is_seen : model_of y x a.table.blocks a.table.words a.lines ≡ m
     is_seen = rw (ey ∙ last_is I, ex ∙ running_is I) (all_read (old_of strict I.consistent) all_in)
 
-  pub candidate_parentless : row.parents ≡ false → Parentless b'
+  pub candidate_parentless : row.parents ≡ false → Parentless a.table.blocks
   candidate_parentless z = E.parentless z (λ p h. ap (λ (x : Thread). x.parent) (e.clean p h))
 
-  pub candidate_beyond : NobodyFrom row.places b'
+  pub candidate_beyond : NobodyFrom row.places a.table.blocks
   candidate_beyond = E.beyond (λ p _ h. ap (λ (x : Thread). x.standing) (e.clean p h))
 
-  pub candidate_shows : (strict : Bool) (m : Model) → ImageAsBy strict row m s → ShowsBy strict (record { filled = f; last = record { 0 = y }; running = record { 0 = x }; blocks = b'; words = w'; lines = l' }) m
+  pub candidate_shows : (strict : Bool) (m : Model) → ImageAsBy strict row m s → ShowsBy strict (record { desk = record { filled = f; last = record { 0 = y }; running = record { 0 = x } }; arrays = a }) m
   candidate_shows strict m I = record {
     consists = record {
       whole = record { blocks = E.sized.blocks; words = E.sized.words; lines = (all_in strict m I).filed.tidy };

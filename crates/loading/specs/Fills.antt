@@ -1,6 +1,7 @@
 -- How far the reading has come: nothing has been read, one place more, all of them. Assumes nothing.
 use Rattle.std.specs.Prelude.{◌≡◌, refl, List, [], ◌∷◌, ◌++◌, true, false, ℕ, ◌-◌, ◌≤◌, ◌<◌, eqb, ltb}
 use Rattle.std.proofs.Common.{sym, ap, ◌∙◌, arith, eq-eqb, ne_eqb, lt-ltb, le-ltb, eqb-true, ltb-false}
+use Rattle.std.proofs.lemmas.List.{get_or-replicate}
 use Rattle.std.proofs.lemmas.Bool.{eqb-false, not-false}
 use Rattle.lists.specs.Sizes.{queue_count}
 use Rattle.lists.specs.Lists.{count, among}
@@ -11,10 +12,15 @@ use Rattle.lines.specs.Lines.{line_of, Clear}
 use Rattle.rules.specs.Values.{nobody}
 use Rattle.rules.specs.Model.{places, line_count, Empty, Thread, vacant, Model, inbox, thread, line, lives_at}
 use Rattle.rules.specs.Consistent.{OldConsistent}
+use Rattle.rules.specs.Rules.{fresh}
 use Rattle.order.specs.Sound.{old_sound, sending, sent}
 use Rattle.table.specs.Cells.{thread_of, model_of}
 use Rattle.table.specs.Clean.{Sized, Emptied}
+use Rattle.table.specs.Rows.{thread_at, line_at}
+use Rattle.table.specs.declared.Arrays.{Arrays}
 use Rattle.table.specs.Stores.{Stood, Told, Named, Raised, Stored, wrote_then, named, stood, heard, raised}
+use Rattle.nucleus.specs.View.{Shows}
+use Rattle.nucleus.specs.declared.State.{State}
 use Rattle.saving.specs.Format.{live_places}
 use Rattle.saving.specs.Queues.{inbox_at, each_line}
 use Rattle.saving.specs.declared.format.Row.{Row}
@@ -22,6 +28,20 @@ use Rattle.loading.specs.Positions.{live_in}
 use Rattle.loading.specs.Reading.{thread_in, Filed, opened, Seats, Upto, Parentless, NobodyFrom}
 
 -- ---- nothing
+
+-- the arrays that the reading starts from are those of the fresh state
+module _ {s : State} (S : Shows s fresh) where
+  pub fresh_emptied : Emptied s.arrays.table.blocks s.arrays.table.words places
+  fresh_emptied = record {
+    sized = record { blocks = S.consists.whole.blocks; words = S.consists.whole.words };
+    clean = λ p h. sym (thread_at s.desk.last.0 s.desk.running.0 s.arrays.table.blocks s.arrays.table.words s.arrays.lines p h) ∙ ap (λ (m : Model). thread m p) S.seen ∙ get_or-replicate places p vacant vacant h;
+  }
+
+  pub fresh_clear : Clear places line_count s.arrays.lines
+  fresh_clear = record {
+    tidy = S.consists.whole.lines;
+    empty = λ q h. sym (line_at s.desk.last.0 s.desk.running.0 s.arrays.table.blocks s.arrays.table.words s.arrays.lines q h) ∙ ap (λ (m : Model). line m q) S.seen ∙ get_or-replicate line_count q [] [] h;
+  }
 
 pub filed_none : (m : Model) {l : List ℕ} → Clear places line_count l → Filed m (λ q. ltb q 0) l
 filed_none m k = record { tidy = k.tidy; lines = λ q h. rw (le-ltb q 0 (omega arith)) (k.empty q h) }
@@ -93,34 +113,34 @@ module _ {m : Model} (C : OldConsistent m) where
   pub dead : (p : ℕ) → lives_at m p ≡ false → (thread m p).standing ≡ Empty
   dead p h = eqb-true (thread m p).standing Empty (not-false (eqb (thread m p).standing Empty) h)
 
-  module _ {b w l : List ℕ} (U : Upto m (live_places m) b w l) where
-    threads_all : (p : ℕ) → p < places → thread_of b w p ≡ thread m p
+  module _ {a : Arrays} (U : Upto m (live_places m) a) where
+    threads_all : (p : ℕ) → p < places → thread_of a.table.blocks a.table.words p ≡ thread m p
     threads_all p h =
         U.seats.threads p h ∙ rw (live_in m p h) (by_test (lives_at m p)
         (λ t. rw t)
         (λ t. rw t (sym (C.clean p (dead p t)))))
 
-    lines_all : (q : ℕ) → q < line_count → line_of places l q ≡ line m q
+    lines_all : (q : ℕ) → q < line_count → line_of places a.lines q ≡ line m q
     lines_all =
-        each_line (λ q. line_of places l q ≡ line m q)
+        each_line (λ q. line_of places a.lines q ≡ line m q)
         (λ q h. U.filed.lines q (omega arith) ∙ rw (opened_queue (live_places m) q h))
         (λ p h.
-        let a = inbox_at p in
+        let i = inbox_at p in
         U.filed.lines (inbox p) (omega arith) ∙ rw (opened_inbox (live_places m) p, live_in m p h) (by_test (lives_at m p)
         (λ t. rw t)
         (λ t. rw t (sym (no_inbox p (dead p t))))))
 
-    pub all_read : model_of m.last m.running b w l ≡ m
+    pub all_read : model_of m.last m.running a.table.blocks a.table.words a.lines ≡ m
     all_read =
-        let et = tab_ext places (thread_of b w) (thread m) threads_all ∙ tab_of vacant places m.threads C.threads in
-        let el = tab_ext line_count (line_of places l) (line m) lines_all ∙ tab_of [] line_count m.lines C.lines in
+        let et = tab_ext places (thread_of a.table.blocks a.table.words) (thread m) threads_all ∙ tab_of vacant places m.threads C.threads in
+        let el = tab_ext line_count (line_of places a.lines) (line m) lines_all ∙ tab_of [] line_count m.lines C.lines in
         λ i. record { last = m.last; running = m.running; threads = et i; lines = el i }
 
 -- ---- what the stores of one thread make of its place
 
-module _ {b w b₁ b₂ w₂ b₃ w₃ b₄ : List ℕ} {p n st pa x co wh y pr : ℕ} (k : Sized b w) (h : p < places) where
-  stored : Named b p n b₁ → Stood b₁ w p st pa x b₂ w₂ → Told b₂ w₂ p co wh y b₃ w₃ → Raised b₃ p pr b₄
-      → Stored b w p (λ _. record { number = n; standing = st; partner = pa; word = x; code = co; who = wh; answer = y; parent = pr }) b₄ w₃
+module _ {b w b₁ w₁ b₂ w₂ b₃ w₃ b₄ w₄ : List ℕ} {p n st pa x co wh y pr : ℕ} (k : Sized b w) (h : p < places) where
+  stored : Named b w p n b₁ w₁ → Stood b₁ w₁ p st pa x b₂ w₂ → Told b₂ w₂ p co wh y b₃ w₃ → Raised b₃ w₃ p pr b₄ w₄
+      → Stored b w p (λ _. record { number = n; standing = st; partner = pa; word = x; code = co; who = wh; answer = y; parent = pr }) b₄ w₄
   stored e s t r =
       let u = named k.blocks k.words h e in
       let v = stood u.blocks u.words h s in
@@ -128,7 +148,7 @@ module _ {b w b₁ b₂ w₂ b₃ w₃ b₄ : List ℕ} {p n st pa x co wh y pr 
       wrote_then u (wrote_then v (wrote_then i (raised i.blocks i.words h r)))
 
   -- read from the bytes
-  pub seated : (row : Row) (s : List ℕ) (o : ℕ) → Named b p n b₁ → Stood b₁ w p st pa x b₂ w₂ → Told b₂ w₂ p co wh y b₃ w₃ → Raised b₃ p pr b₄
+  pub seated : (row : Row) (s : List ℕ) (o : ℕ) → Named b w p n b₁ w₁ → Stood b₁ w₁ p st pa x b₂ w₂ → Told b₂ w₂ p co wh y b₃ w₃ → Raised b₃ w₃ p pr b₄ w₄
       → record { number = n; standing = st; partner = pa; word = x; code = co; who = wh; answer = y; parent = pr } ≡ thread_in row s n o
-      → Stored b w p (λ _. thread_in row s n o) b₄ w₃
+      → Stored b w p (λ _. thread_in row s n o) b₄ w₄
   seated row s o e u t r z = let W = stored e u t r in record { blocks = W.blocks; words = W.words; here = W.here ∙ z; there = W.there }

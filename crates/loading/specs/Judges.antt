@@ -116,22 +116,22 @@ bare_tells {l} t k e = record {
 
 -- and so a model that the row holds
 module _ (row : Row) (s : State) where
-  same_line : (q : ℕ) → q < queue_count → line (view s) q ≡ line_of places s.lines q
-  same_line q h = line_at s.last.0 s.running.0 s.blocks s.words s.lines q (omega arith)
+  same_line : (q : ℕ) → q < queue_count → line (view s) q ≡ line_of places s.arrays.lines q
+  same_line q h = line_at s.desk.last.0 s.desk.running.0 s.arrays.table.blocks s.arrays.table.words s.arrays.lines q (omega arith)
 
-  same_parents : Parentless s.blocks → (p : ℕ) → (thread (view s) p).parent ≡ nobody
+  same_parents : Parentless s.arrays.table.blocks → (p : ℕ) → (thread (view s) p).parent ≡ nobody
   same_parents f p =
       by_test (ltb p places)
-      (λ t. let h = ltb-true p places t in rw (thread_at s.last.0 s.running.0 s.blocks s.words s.lines p h) (f p h))
-      (λ t. rw (thread_past s.last.0 s.running.0 s.blocks s.words s.lines p (ltb-false p places t)))
+      (λ t. let h = ltb-true p places t in rw (thread_at s.desk.last.0 s.desk.running.0 s.arrays.table.blocks s.arrays.table.words s.arrays.lines p h) (f p h))
+      (λ t. rw (thread_past s.desk.last.0 s.desk.running.0 s.arrays.table.blocks s.arrays.table.words s.arrays.lines p (ltb-false p places t)))
 
-  same_standing : (p : ℕ) → p < places → (thread (view s) p).standing ≡ get_or s.blocks (cell 1 p) 0
-  same_standing p h = ap (λ (t : Thread). t.standing) (thread_at s.last.0 s.running.0 s.blocks s.words s.lines p h)
+  same_standing : (p : ℕ) → p < places → (thread (view s) p).standing ≡ get_or s.arrays.table.blocks (cell 1 p) 0
+  same_standing p h = ap (λ (t : Thread). t.standing) (thread_at s.desk.last.0 s.desk.running.0 s.arrays.table.blocks s.arrays.table.words s.arrays.lines p h)
 
-  pub bare_holds : Bare s.lines row.queues queue_count → (row.parents ≡ false → Parentless s.blocks) → NobodyFrom row.places s.blocks → Holds row (view s)
+  pub bare_holds : Bare s.arrays.lines row.queues queue_count → (row.parents ≡ false → Parentless s.arrays.table.blocks) → NobodyFrom row.places s.arrays.table.blocks → Holds row (view s)
   bare_holds f g h = record { queues = λ q i k. same_line q k ∙ f q i k; parents = λ e. same_parents (g e); places = λ p i k. same_standing p k ∙ h p i k }
 
-  pub holds_bare : Holds row (view s) → Bare s.lines row.queues queue_count
+  pub holds_bare : Holds row (view s) → Bare s.arrays.lines row.queues queue_count
   holds_bare f q h k = sym (same_line q k) ∙ f.queues q h k
 
 -- ---- the candidate, read by the row of byte 0
@@ -144,7 +144,7 @@ module _ {strict : Bool} {row : Row} {s : List ℕ} {t : State} (er : row ≡ ro
   pub foreign_not : (ConsistsBy strict t → ⊥) → ForeignBy strict s
   foreign_not n m I = n (shows I).consists
 
-  pub foreign_full : (Bare t.lines row.queues queue_count → ⊥) → ForeignBy strict s
+  pub foreign_full : (Bare t.arrays.lines row.queues queue_count → ⊥) → ForeignBy strict s
   foreign_full n m (other, I) =
       let e : other ≡ row = row_is I ∙ sym er in
       let z = (shows (other, I)).seen in

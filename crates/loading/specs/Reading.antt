@@ -9,6 +9,7 @@ use Rattle.rules.specs.Values.{nobody}
 use Rattle.rules.specs.Model.{places, line_count, Empty, Thread, vacant, Model, thread, line, live}
 use Rattle.table.specs.Cells.{cell, thread_of}
 use Rattle.table.specs.Clean.{Sized}
+use Rattle.table.specs.declared.Arrays.{Arrays}
 use Rattle.saving.specs.Format.{lengths_at, head_length, entry_length, parent_at, live_places}
 use Rattle.saving.specs.declared.format.Row.{Row}
 use Rattle.loading.specs.Loads.{ImageAsBy}
@@ -62,9 +63,9 @@ pub record Seats (m : Model) (ps b w : List ℕ) : Type 0 where
   pub threads : (p : ℕ) → p < places → thread_of b w p ≡ cond (among p ps) (thread m p) vacant
 
 -- the places ps have been read
-pub record Upto (m : Model) (ps b w l : List ℕ) : Type 0 where
-  pub seats : Seats m ps b w
-  pub filed : Filed m (opened ps) l
+pub record Upto (m : Model) (ps : List ℕ) (a : Arrays) : Type 0 where
+  pub seats : Seats m ps a.table.blocks a.table.words
+  pub filed : Filed m (opened ps) a.lines
 
 -- where the places of line q start, by the lengths in the head. (No abbrev: at a numeral q it would unfold q deep wherever it stands.)
 unfoldable pub queue_at : Row → List ℕ → ℕ → ℕ
@@ -89,8 +90,8 @@ abbrev pub NobodyFrom : ℕ → List ℕ → Type 0
 NobodyFrom n b = (p : ℕ) → n ≤ p → p < places → get_or b (cell 1 p) 0 ≡ Empty
 
 -- the entries of the contents from i to k have been read
-pub record Entered (row : Row) (s : List ℕ) (i k : ℕ) (b w l b' w' l' : List ℕ) : Type 0 where
-  pub sized : Sized b' w'
-  pub parentless : row.parents ≡ false → Parentless b → Parentless b'
-  pub beyond : NobodyFrom row.places b → NobodyFrom row.places b'
-  pub reads : (strict : Bool) (m : Model) → ImageAsBy strict row m s → k < suc (live m) → Upto m (take i (live_places m)) b w l → Upto m (take k (live_places m)) b' w' l'
+pub record Entered (row : Row) (s : List ℕ) (i k : ℕ) (a a' : Arrays) : Type 0 where
+  pub sized : Sized a'.table.blocks a'.table.words
+  pub parentless : row.parents ≡ false → Parentless a.table.blocks → Parentless a'.table.blocks
+  pub beyond : NobodyFrom row.places a.table.blocks → NobodyFrom row.places a'.table.blocks
+  pub reads : (strict : Bool) (m : Model) → ImageAsBy strict row m s → k < suc (live m) → Upto m (take i (live_places m)) a → Upto m (take k (live_places m)) a'

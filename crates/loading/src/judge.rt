@@ -47,10 +47,9 @@ pub fn head(image: &[u8]) -> Result<Row, u8>
 pub fn refuse(code: u8) -> Loaded
     ensures { Refused code result }
 {
-    let s = State::fresh();
     Loaded {
-        code: code,
-        state: s,
+        code,
+        state: State::fresh(),
     }
 }
 
@@ -59,12 +58,8 @@ fn same(row: Row, image: &[u8], s: State) -> bool
     requires { (row.queues ≤ queue_count) × ConsistsBy false s }
     ensures { Tells result (encode_as row (view s) ≡ image.now) (encode_as row (view s) ≡ image.now → ⊥) }
 {
-    let d = s.desk();
-    let b = s.blocks;
-    let w = s.words;
-    let l = s.lines;
     let mut out = [0u8; saving::LONGEST];
-    let n = saving::write(row, &b, &w, &l, d, &mut out);
+    let n = saving::write(row, &s.arrays, s.desk, &mut out);
     image == &out[..n]
 }
 
@@ -73,18 +68,14 @@ fn holds(row: Row, l: &Links) -> bool
     requires { Tidy places line_count l.now }
     ensures { Tells result (Bare l.now row.queues queue_count) (Bare l.now row.queues queue_count → ⊥) }
 {
-    (row.queues..lines::QUEUES as u8).all(|q| lines::first(l, q) == lines::NONE)
+    (row.queues..lines::QUEUES as u8).all(|q| lines::first(l, q).is_none())
 }
 
 // Is the state consistent? By the rules as they are, or (strict is false) by the old ones.
 fn consists(strict: bool, s: State) -> bool
     ensures { Tells result (ConsistsBy strict s) (ConsistsBy strict s → ⊥) }
 {
-    let d = s.desk();
-    let b = s.blocks;
-    let w = s.words;
-    let l = s.lines;
-    audit::consistent_by(strict, &b, &w, &l, d)
+    audit::consistent_by(strict, &s.arrays, s.desk)
 }
 
 // Bytes whose head is in order, of the edition with the row.
@@ -96,8 +87,7 @@ pub fn judge(strict: bool, row: Row, image: &[u8]) -> Loaded
     if !consists(strict, s) {
         return refuse(codes::FOREIGN);
     }
-    let l = s.lines;
-    if !holds(row, &l) {
+    if !holds(row, &s.arrays.lines) {
         return refuse(codes::FOREIGN);
     }
     if !same(row, image, s) {

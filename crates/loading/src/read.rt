@@ -16,7 +16,7 @@ use nucleus::State;
 use rules::{Number, Place};
 use saving::format;
 use saving::format::Row;
-use table::{Blocks, Words};
+use table::{Arrays, Desk, Table};
 
 // The places at image[from .. from + count] join line q, if they can.
 fn enqueue(image: &[u8], from: usize, count: usize, q: u8, l: &mut Links)
@@ -40,24 +40,24 @@ fn parent(row: Row, image: &[u8], o: usize) -> Number
 }
 
 // The thread with the number n whose body starts at o comes to the place p.
-fn seat(row: Row, image: &[u8], o: usize, p: Place, n: Number, b: &mut Blocks, w: &mut Words)
-    requires { (o < 2 ^ 16) × (p.0 < places) × Sized b.old w.old }
-    ensures { Stored b.old w.old p.0 (λ t. thread_in row image.now n.0 o) b.new w.new }
+fn seat(row: Row, image: &[u8], o: usize, p: Place, n: Number, t: &mut Table)
+    requires { (o < 2 ^ 16) × (p.0 < places) × Sized t.old.blocks t.old.words }
+    ensures { Stored t.old.blocks t.old.words p.0 (λ x. thread_in row image.now n.0 o) t.new.blocks t.new.words }
 {
-    table::name(b, p, n);
+    t.name(p, n);
     let partner = Number(bytes::at(image, o + format::PARTNER_AT));
     let word = bytes::word(image, o + format::WORD_AT);
-    table::stand(b, w, p, bytes::at(image, o), partner, word);
+    t.stand(p, bytes::at(image, o), partner, word);
     let who = Number(bytes::at(image, o + format::WHO_AT));
     let answer = bytes::word(image, o + format::ANSWER_AT);
-    table::tell(b, w, p, bytes::at(image, o + format::CODE_AT), who, answer);
-    table::raise(b, p, parent(row, image, o));
+    t.tell(p, bytes::at(image, o + format::CODE_AT), who, answer);
+    t.raise(p, parent(row, image, o));
 }
 
 // Entry i of the contents is read, with the body that it names, if its place is one that the row has.
-fn enter(row: Row, image: &[u8], i: usize, b: &mut Blocks, w: &mut Words, l: &mut Links)
-    requires { (i < 2 ^ 16) × (row.places ≤ places) × Sized b.old w.old }
-    ensures { Entered row image.now i (i + 1) b.old w.old l.old b.new w.new l.new }
+fn enter(row: Row, image: &[u8], i: usize, a: &mut Arrays)
+    requires { (i < 2 ^ 16) × (row.places ≤ places) × Sized a.old.table.blocks a.old.table.words }
+    ensures { Entered row image.now i (i + 1) a.old a.new }
 {
     let entry = format::head_length(row) + format::ENTRY * i;
     let p = bytes::at(image, entry);
@@ -66,24 +66,24 @@ fn enter(row: Row, image: &[u8], i: usize, b: &mut Blocks, w: &mut Words, l: &mu
     }
     let o = bytes::two(image, entry + format::OFFSET_AT);
     let n = Number(bytes::at(image, entry + format::NUMBER_AT));
-    seat(row, image, o, Place(p), n, b, w);
+    seat(row, image, o, Place(p), n, &mut a.table);
     let count = usize::from(bytes::at(image, o + format::INBOX_LENGTH_AT));
     enqueue(
         image,
         o + format::body_length(row),
         count,
         table::INBOX_LINES + p,
-        l,
+        &mut a.lines,
     );
 }
 
 // Every entry is read.
-fn entries(row: Row, image: &[u8], n: usize, b: &mut Blocks, w: &mut Words, l: &mut Links)
-    requires { (n < 256) × (row.places ≤ places) × Sized b.old w.old }
-    ensures { Entered row image.now 0 n b.old w.old l.old b.new w.new l.new }
+fn entries(row: Row, image: &[u8], n: usize, a: &mut Arrays)
+    requires { (n < 256) × (row.places ≤ places) × Sized a.old.table.blocks a.old.table.words }
+    ensures { Entered row image.now 0 n a.old a.new }
 {
     for i in 0..n {
-        enter(row, image, i, b, w, l);
+        enter(row, image, i, a);
     }
 }
 
@@ -105,24 +105,16 @@ fn queues(row: Row, image: &[u8], l: &mut Links)
 // has none, and nobody lives at a place that the row has not.
 pub fn candidate(row: Row, image: &[u8]) -> State
     requires { (row.queues ≤ queue_count) × (row.places ≤ places) }
-    ensures { ((strict : Bool) (m : Model) → ImageAsBy strict row m image.now → ShowsBy strict result m) × (row.parents ≡ false → Parentless result.blocks) × NobodyFrom row.places result.blocks }
+    ensures { ((strict : Bool) (m : Model) → ImageAsBy strict row m image.now → ShowsBy strict result m) × (row.parents ≡ false → Parentless result.arrays.table.blocks) × NobodyFrom row.places result.arrays.table.blocks }
 {
-    let mut b = [0u8; table::BYTES];
-    let mut w = [0u32; table::WORDS];
-    table::clear(&mut b, &mut w);
-    let mut l = lines::fresh();
-    queues(row, image, &mut l);
+    let mut arrays = State::fresh().arrays;
+    queues(row, image, &mut arrays.lines);
     let n = usize::from(bytes::at(image, format::LIVE_AT));
-    entries(row, image, n, &mut b, &mut w, &mut l);
-    let filled = audit::filling(&b);
-    let last = bytes::at(image, format::LAST_AT);
-    let running = bytes::at(image, format::RUNNING_AT);
-    State {
-        filled: filled,
-        last: Number(last),
-        running: Place(running),
-        blocks: b,
-        words: w,
-        lines: l,
-    }
+    entries(row, image, n, &mut arrays);
+    let desk = Desk {
+        filled: audit::filling(&arrays.table),
+        last: Number(bytes::at(image, format::LAST_AT)),
+        running: Place(bytes::at(image, format::RUNNING_AT)),
+    };
+    State { desk, arrays }
 }

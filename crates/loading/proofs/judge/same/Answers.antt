@@ -8,9 +8,9 @@ use Rattle.loading.proofs.judge.same.Goals as goal
 
 pub write-n-requires : goal.write-n-requires
 write-n-requires c =
-    (c.requires.0, rw c.desk-d.ensures c.requires.1, search rules)
+    (c.requires.0, c.requires.1, search rules)
 
 pub returns : goal.returns
 returns c =
     let d = slice_eq-Decides Decides-eqb _ _ _ c.eq.ensures in
-    written_tells (rw c.desk-d.ensures at c.write-n.ensures) (record { yes = λ e. sym (d.0 e); no = λ e z. not_from_Decides _ d e (sym z) })
+    written_tells c.write-n.ensures (record { yes = λ e. sym (d.0 e); no = λ e z. not_from_Decides _ d e (sym z) })

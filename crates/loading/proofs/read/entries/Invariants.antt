@@ -3,4 +3,4 @@ use Rattle.loading.specs.Reading.{Entered}
 use Rattle.loading.proofs.read.entries.Given as goal
 
 abbrev pub invariant-loop-i : goal.invariant-loop-i
-invariant-loop-i l = Entered l.row l.image 0 l.i l.initial.b l.initial.w l.initial.l l.b l.w l.l
+invariant-loop-i l = Entered l.row l.image 0 l.i l.initial.a l.a

@@ -4,11 +4,11 @@ use Rattle.loading.proofs.read.seat.Goals as goal
 
 pub returns : goal.returns
 returns c =
-    let a = c.args in
+    let x = c.args in
     let k = c.requires in
-    seated k.2 k.1 a.row a.image.now a.o c.name.ensures c.stand.ensures c.tell.ensures c.raise.ensures
+    seated k.2 k.1 x.row x.image.now x.o c.name.ensures c.stand.ensures c.tell.ensures c.raise.ensures
     (λ i. record {
-      number = a.n.0;
+      number = x.n.0;
       standing = c.at-2.ensures i;
       partner = c.at.ensures i;
       word = c.word-word.ensures i;
