@@ -129,37 +129,37 @@ fn desks(rt: &impl Print, s: State) -> io::Result<()> {
 // well, and be no shorter.
 fn byte(mut s: State, at: usize, x: u8) -> State {
     if at < table::BYTES {
-        s.blocks[at] = x;
+        s.arrays.table.blocks[at] = x;
     }
     s
 }
 
 fn word(mut s: State, at: usize, x: u32) -> State {
     if at < table::WORDS {
-        s.words[at] = x;
+        s.arrays.table.words[at] = x;
     }
     s
 }
 
 fn link(mut s: State, at: usize, x: u8) -> State {
     if at < lines::CELLS {
-        s.lines[at] = x;
+        s.arrays.lines[at] = x;
     }
     s
 }
 
 fn running(mut s: State, p: Place) -> State {
-    s.running = p;
+    s.desk.running = p;
     s
 }
 
 fn one_more(mut s: State) -> State {
-    s.filled = 127;
+    s.desk.filled = 127;
     s
 }
 
 fn no_number(mut s: State) -> State {
-    s.last = Number(254);
+    s.desk.last = Number(254);
     s
 }
 
