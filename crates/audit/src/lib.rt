@@ -3,7 +3,7 @@
 // each place, the place of each number, and the stamp of the walk from parent to parent that came to a place first.
 #![tactic(auto)]
 
-ghost use Rattle.std.specs.Prelude.{◌≡◌, List, [], ℕ, ◌+◌, ◌^◌, ◌<◌, length, get_or};
+ghost use Rattle.std.specs.Prelude.{◌≡◌, List, [], ℕ, ◌+◌, ◌<◌};
 ghost use Rattle.lists.specs.Tells.{Tells};
 ghost use Rattle.lines.specs.Lines.{Tidy};
 ghost use Rattle.rules.specs.Model.{places, line_count, thread};
@@ -33,13 +33,6 @@ const ASTRAY: u8 = 254;
 // The index of numbers has an entry for each byte: any may come as a number.
 const ENTRIES: usize = 256;
 
-// A byte as an index.
-fn wide(x: u8) -> usize
-    ensures { (result ≡ x) × (result < 256) }
-{
-    x as usize
-}
-
 // ---- a thread alone
 
 // Partner and word by standing: the table of document 01, and standing 7.
@@ -47,28 +40,13 @@ fn as_table(standing: u8, partner: Number, word: u32) -> bool
     ensures { result ≡ as_table standing partner.0 word }
 {
     let resting = (partner.0 == NOBODY) & (word == 0);
-    if standing == RUNNING {
-        return resting;
+    match standing {
+        RUNNING | READY | WAITING => resting,
+        SENDING | AWAITING => partner.0 <= LAST_NUMBER,
+        RECEIVING => ((partner.0 <= LAST_NUMBER) | (partner.0 == NOBODY)) & (word == 0),
+        AT_DEVICE => (partner.0 < INDEXES) & (word == 0),
+        _ => false,
     }
-    if standing == READY {
-        return resting;
-    }
-    if standing == SENDING {
-        return partner.0 <= LAST_NUMBER;
-    }
-    if standing == AWAITING {
-        return partner.0 <= LAST_NUMBER;
-    }
-    if standing == RECEIVING {
-        return ((partner.0 <= LAST_NUMBER) | (partner.0 == NOBODY)) & (word == 0);
-    }
-    if standing == WAITING {
-        return resting;
-    }
-    if standing == AT_DEVICE {
-        return (partner.0 < INDEXES) & (word == 0);
-    }
-    false
 }
 
 // An answer has code 0 or ENDED and who a number, or code 0 and who nobody.
@@ -108,33 +86,17 @@ fn fits(t: Thread) -> bool
 fn home(who: &[u8; ENTRIES], t: Thread) -> u8
     ensures { result ≡ home_of who.now (as_thread t) }
 {
-    let standing = t.standing;
-    if standing == READY {
-        return table::READY_LINE;
+    let partner = t.partner.0;
+    let r = who[partner as usize];
+    match t.standing {
+        READY => table::READY_LINE,
+        WAITING => table::CLOCK_LINE,
+        AT_DEVICE if partner < INDEXES => table::DEVICE_LINES + partner,
+        SENDING if r < LIMIT => table::INBOX_LINES + r,
+        AWAITING if r < LIMIT => NONE,
+        AT_DEVICE | SENDING | AWAITING => ASTRAY,
+        _ => NONE,
     }
-    if standing == WAITING {
-        return table::CLOCK_LINE;
-    }
-    if standing == AT_DEVICE {
-        let i = t.partner.0;
-        return if i < INDEXES {
-            table::DEVICE_LINES + i
-        } else {
-            ASTRAY
-        };
-    }
-    let r = who[wide(t.partner.0)];
-    if standing == SENDING {
-        return if r < LIMIT {
-            table::INBOX_LINES + r
-        } else {
-            ASTRAY
-        };
-    }
-    if standing == AWAITING {
-        return if r < LIMIT { NONE } else { ASTRAY };
-    }
-    NONE
 }
 
 // Is the owner of the inbox in which t would stand, at r, not waiting to hear it?
@@ -147,8 +109,7 @@ fn unheard(b: &Blocks, r: Place, t: Thread) -> bool
     if r.0 >= LIMIT {
         return true;
     }
-    let n = t.number;
-    !table::listens(b, r, n)
+    !table::listens(b, r, t.number)
 }
 
 // Is t, at p, the one that runs, if it stands as running?
@@ -179,7 +140,7 @@ fn parented(who: &[u8; ENTRIES], t: Thread) -> bool
     ensures { result ≡ parent_found who.now (as_thread t) }
 {
     let n = t.parent.0;
-    let found = who[wide(n)] < LIMIT;
+    let found = who[n as usize] < LIMIT;
     (n == NOBODY) | (n <= LAST_NUMBER) & found
 }
 
@@ -197,7 +158,7 @@ fn place(
     ensures { result ≡ place_test strict (model_of 0 running.0 b.now w.now []) at.now who.now p.0 }
 {
     let t = table::read(b, w, p);
-    let r = Place(who[wide(t.partner.0)]);
+    let r = Place(who[t.partner.0 as usize]);
     let seated = at[p.0 as usize] == home(who, t);
     let others = unheard(b, r, t) & (names_live(strict, r, t) & parented(who, t));
     fits(t) & (runs_alone(running, p, t) & (seated & others))
@@ -214,7 +175,7 @@ fn enter(b: &Blocks, who: &mut [u8; ENTRIES], p: Place) -> bool
     if b[table::STANDING + at] == EMPTY {
         return true;
     }
-    let n = wide(b[table::NUMBER + at]);
+    let n = b[table::NUMBER + at] as usize;
     if who[n] != NONE {
         return false;
     }
@@ -227,12 +188,10 @@ fn index(b: &Blocks, who: &mut [u8; ENTRIES]) -> bool
     requires { Indexed b.now who.old 0 }
     ensures { Tells result (Indexed b.now who.new places) (Twice b.now) }
 {
-    let mut p: u8 = 0;
-    while p < LIMIT {
+    for p in 0..LIMIT {
         if !enter(b, who, Place(p)) {
             return false;
         }
-        p += 1;
     }
     true
 }
@@ -254,7 +213,7 @@ fn ends(b: &Blocks, who: &[u8; ENTRIES], stamps: &mut [u8; PLACES], p: u8) -> bo
             return stamp != own;
         }
         stamps[at] = own;
-        r = who[wide(b[table::PARENT + at])];
+        r = who[b[table::PARENT + at] as usize];
     }
     true
 }
@@ -264,13 +223,11 @@ fn ringless(b: &Blocks, who: &[u8; ENTRIES]) -> bool
     requires { Indexed b.now who.now places }
     ensures { Tells result ((p : ℕ) → p < places → Rises b.now who.now p) (Ring b.now who.now) }
 {
-    let mut stamps: [u8; PLACES] = [0; PLACES];
-    let mut p: u8 = 0;
-    while p < LIMIT {
+    let mut stamps = [0; PLACES];
+    for p in 0..LIMIT {
         if !ends(b, who, &mut stamps, p) {
             return false;
         }
-        p += 1;
     }
     true
 }
@@ -288,12 +245,10 @@ fn every(
 ) -> bool
     ensures { AllPass result (place_test strict (model_of 0 running.0 b.now w.now []) at.now who.now) }
 {
-    let mut p: u8 = 0;
-    while p < LIMIT {
+    for p in 0..LIMIT {
         if !place(strict, b, w, at, who, running, Place(p)) {
             return false;
         }
-        p += 1;
     }
     true
 }
@@ -303,12 +258,10 @@ pub fn filling(b: &Blocks) -> u64
     ensures { Filled result b.now }
 {
     let mut x: u64 = 0;
-    let mut p: u8 = 0;
-    while p < LIMIT {
+    for p in 0..LIMIT {
         if b[table::STANDING + p as usize] != EMPTY {
             x = filled::with(x, p);
         }
-        p += 1;
     }
     x
 }
@@ -333,22 +286,6 @@ fn seated(b: &Blocks, l: &Links, d: Desk) -> bool
 
 // ---- the whole
 
-// How many bytes a slice has.
-fn bytes(s: &[u8]) -> usize
-    ensures { result ≡ length s.now }
-{
-    s.len()
-}
-
-// How many words a slice has; each of them has 32 bits.
-fn words(s: &[u32]) -> usize
-    ensures { (result ≡ length s.now) × ((i : ℕ) → get_or s.now i 0 < 2 ^ 32) }
-{
-    let n = s.len();
-    wide(0);
-    n
-}
-
 // Do all places pass, each with all that it has to do with others, and do parents form no ring?
 fn members(strict: bool, b: &Blocks, w: &Words, at: &[u8; PLACES], running: Place) -> bool
     ensures { Tells result (Members strict running.0 b.now w.now at.now) (Strangers strict running.0 b.now w.now at.now) }
@@ -371,15 +308,13 @@ pub fn consistent_by(strict: bool, b: &Blocks, w: &Words, l: &Links, d: Desk) ->
     if !seats.tidy {
         return false;
     }
-    let at = seats.at;
-    if !members(strict, b, w, &at, d.running) {
+    if !members(strict, b, w, &seats.at, d.running) {
         return false;
     }
     if !seated(b, l, d) {
         return false;
     }
-    // The sizes are those of the types; a proof does not know them of what is lent, and learns them here.
-    (filling(b) == d.filled) & ((bytes(b) == table::BYTES) & (words(w) == table::WORDS))
+    filling(b) == d.filled
 }
 
 // The same, by the rules as they are.

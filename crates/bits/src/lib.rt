@@ -35,11 +35,12 @@ pub fn insert(s: &mut Set, n: Number)
     ensures { Adds s.old (eqb n.0) s.new }
 {
     let at = n.0 as usize;
-    s[at / DIGITS] = s[at / DIGITS] | (1 << (at % DIGITS));
+    s[at / DIGITS] |= 1 << (at % DIGITS);
 }
 
 // The first from n on that is not in the set, a word at a time: the zeros below it in the complement are those that are in the set. Where all of them are, it
-// is no digit of the words any more.
+// is no digit of the words any more: no Option, since the callers' one test, that it is a number, tells that too.
+// The loop goes by words and not by digits, so it is no `for`.
 fn first_clear(s: &Set, n: usize) -> usize
     ensures { (f : ℕ → Bool) → s.now ≡ set_of f → FirstClear f n result }
 {
@@ -54,7 +55,8 @@ fn first_clear(s: &Set, n: usize) -> usize
     at
 }
 
-// The first number after the last one given that is not in the set, going round at 254. Nobody where all numbers are in it.
+// The first number after the last one given that is not in the set, going round at 254. Nobody where all numbers are in it: no Option, since
+// the contract names the rule's `first_free`, which gives a number.
 pub fn next_clear(s: &Set, last: Number) -> Number
     ensures { (f : ℕ → Bool) → s.now ≡ set_of f → result.0 ≡ first_free f (suc last_number) last.0 }
 {

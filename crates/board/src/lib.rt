@@ -16,6 +16,8 @@ use journal::Read;
 use nucleus::State;
 use rules::{Choice, Event, Number, codes};
 
+// Three records with fields in common, and no generic one: the C interface's contracts, those of `rumqatiss_board`, `rumqatiss_replay` and
+// `rumqatiss_update`, name each with its fields. So each has its own refusal, `decline`, `unplay` and `uncarry`.
 // What one record comes to: code, choice and next, the number given, and the new image's length.
 #[derive(Clone, Copy)]
 pub struct Told {
@@ -46,19 +48,11 @@ pub struct Carried {
     pub length: u16,
 }
 
-// An image's length fits in two bytes.
-fn narrow(n: usize) -> u16
-    requires { n ≤ longest_image }
-    ensures { result ≡ n }
-{
-    n as u16
-}
-
 fn decline(code: u8, x: Choice) -> Told
     ensures { result ≡ declined code x }
 {
     Told {
-        code: code,
+        code,
         choice: x.kind(),
         next: x.runs().0,
         number: rules::NOBODY,
@@ -71,22 +65,20 @@ fn act(s: State, e: Event, out: &mut [u8]) -> Told
     requires { Consists s }
     ensures { (result, out.new) ≡ actedOn (view s) (outcome e (view s)) out.old }
 {
-    let r = s.act(e);
-    if r.code != codes::DONE {
-        return decline(r.code, s.choose());
+    let reply = s.act(e);
+    if reply.code != codes::DONE {
+        return decline(reply.code, s.choose());
     }
-    let t = r.state;
-    let saved = image::keep(t, out);
+    let saved = image::keep(reply.state, out);
     if saved.code != codes::DONE {
         return decline(codes::SHORT, s.choose());
     }
-    let x = r.choice;
     Told {
         code: codes::DONE,
-        choice: x.kind(),
-        next: x.runs().0,
-        number: r.number.0,
-        length: narrow(saved.length),
+        choice: reply.choice.kind(),
+        next: reply.choice.runs().0,
+        number: reply.number.0,
+        length: saved.length as u16,
     }
 }
 
@@ -95,11 +87,8 @@ fn bad(got: Read) -> u8
     ensures { result ≡ bad_code got }
 {
     match got {
-        Read::Record { event: _, next: _ } => codes::CUT_SHORT,
-        Read::AtEnd => codes::CUT_SHORT,
-        Read::CutShort => codes::CUT_SHORT,
         Read::UnknownKind => codes::UNKNOWN_KIND,
-        Read::PastEnd => codes::CUT_SHORT,
+        _ => codes::CUT_SHORT,
     }
 }
 
@@ -125,8 +114,7 @@ fn step(image: &[u8], rec: &[u8], out: &mut [u8]) -> Told
     if from.code != codes::DONE {
         return decline(from.code, Choice::Halt);
     }
-    let s = from.state;
-    take(s, rec, out)
+    take(from.state, rec, out)
 }
 
 // One record happens to an image. The code is returned.
@@ -154,8 +142,7 @@ pub fn rumqatiss_board(
 fn begin(out: &mut [u8]) -> Saved
     ensures { ((result.code, result.length, out.new) ≡ fresh_on out.old) × (result.length ≤ longest_image) }
 {
-    let s = State::fresh();
-    image::keep(s, out)
+    image::keep(State::fresh(), out)
 }
 
 // The image of the fresh state. The code is returned.
@@ -163,7 +150,7 @@ pub fn rumqatiss_fresh(out: &mut [u8], size: &mut u16) -> u8
     ensures { (result, size.new, out.new) ≡ fresh_on out.old }
 {
     let saved = begin(out);
-    *size = narrow(saved.length);
+    *size = saved.length as u16;
     saved.code
 }
 
@@ -171,7 +158,7 @@ fn unplay(code: u8, x: Choice) -> Brought
     ensures { result ≡ unplayed code x }
 {
     Brought {
-        code: code,
+        code,
         choice: x.kind(),
         next: x.runs().0,
         records: 0,
@@ -189,19 +176,17 @@ fn play(s: State, log: &[u8], out: &mut [u8]) -> Brought
         return unplay(codes::NO_ROOM, s.choose());
     }
     let r = logging::replay(s, log);
-    let last = r.state;
-    let saved = image::keep(last, out);
+    let saved = image::keep(r.state, out);
     if saved.code != codes::DONE {
         return unplay(codes::SHORT, s.choose());
     }
-    let x = r.choice;
     Brought {
         code: r.code,
-        choice: x.kind(),
-        next: x.runs().0,
+        choice: r.choice.kind(),
+        next: r.choice.runs().0,
         records: r.records,
         bytes: r.bytes,
-        length: narrow(saved.length),
+        length: saved.length as u16,
     }
 }
 
@@ -212,8 +197,7 @@ fn bring(image: &[u8], log: &[u8], out: &mut [u8]) -> Brought
     if from.code != codes::DONE {
         return unplay(from.code, Choice::Halt);
     }
-    let s = from.state;
-    play(s, log, out)
+    play(from.state, log, out)
 }
 
 // A log is replayed on an image. The code is returned.
@@ -243,7 +227,7 @@ fn uncarry(code: u8, x: Choice) -> Carried
     ensures { result ≡ uncarried code x }
 {
     Carried {
-        code: code,
+        code,
         choice: x.kind(),
         next: x.runs().0,
         length: 0,
@@ -264,7 +248,7 @@ fn carry_to(s: State, out: &mut [u8]) -> Carried
         code: codes::DONE,
         choice: x.kind(),
         next: x.runs().0,
-        length: narrow(saved.length),
+        length: saved.length as u16,
     }
 }
 
@@ -275,8 +259,7 @@ fn carry(image: &[u8], out: &mut [u8]) -> Carried
     if from.code != codes::DONE {
         return uncarry(from.code, Choice::Halt);
     }
-    let s = from.state;
-    carry_to(s, out)
+    carry_to(from.state, out)
 }
 
 // An image of a build with older rules becomes one of today's. The code is returned.
@@ -302,8 +285,8 @@ pub fn rumqatiss_look_up(image: &[u8], number: u8, offset: &mut u16, size: &mut 
     ensures { Locates image.now number result offset.new size.new }
 {
     let part = image::locate(image, Number(number));
-    *offset = narrow(part.offset);
-    *size = narrow(part.length);
+    *offset = part.offset as u16;
+    *size = part.length as u16;
     part.code
 }
 

@@ -13,7 +13,8 @@ pub fn count(x: u64) -> u8
     u64::count_ones(x) as u8
 }
 
-// The lowest place that is empty. Where all are filled it is the first number that is no place.
+// The lowest place that is empty. Where all are filled it is the first number that is no place: no Option, since the contract names `lowest_out`,
+// a number.
 pub fn lowest(x: u64) -> u8
     ensures { (f : ℕ → Bool) → x ≡ word_of width f → result ≡ lowest_out width f }
 {

@@ -11,7 +11,7 @@ const LOW: u8 = 32;
 
 const HIGH: u8 = 16;
 
-// The first pending index. NO_DEVICE where the set is empty.
+// The first pending index. NO_DEVICE where the set is empty: no Option, since the contract names the rule's `first_pending`, a number.
 pub fn first(s: Pending) -> Device
     ensures { result.0 ≡ first_pending s }
 {

@@ -2,7 +2,7 @@
 use Rattle.std.proofs.Common.{arith}
 use Rattle.lists.specs.Tells.{tells_no}
 use mathlib.Core.Path.{sym, ◌∙◌}
-use Rattle.audit.specs.Whole.{not_tidy, not_members, not_seated, answer}
+use Rattle.audit.specs.Whole.{not_members, answer}
 use Rattle.audit.proofs.consistent_by.Goals as goal
 
 pub returns-then-not-members : goal.returns-then-not-members
@@ -10,13 +10,8 @@ returns-then-not-members c =
     let k = c.survey-seats.ensures.yes (grind arith) in
     tells_no (not_members k (c.members.ensures.no c.if-not-members.true))
 
-pub seated-requires : goal.seated-requires
-seated-requires c =
-    (c.survey-seats.ensures.yes (grind arith)).tidy
-
 pub returns : goal.returns
 returns c =
     let a = c.args in
-    answer _ _ _ (c.survey-seats.ensures.yes (grind arith)) (c.members.ensures.yes c.if-not-members.false)
-    (sym (c.seated.ensures a.w.now) ∙ c.if-not-seated.false) c.words.ensures.1 c.filling.ensures
-    c.bytes.ensures c.words.ensures.0
+    answer _ c.told-b c.told-w (c.survey-seats.ensures.yes (grind arith)) (c.members.ensures.yes c.if-not-members.false)
+    (sym (c.seated.ensures a.w.now) ∙ c.if-not-seated.false) c.fits-w c.filling.ensures

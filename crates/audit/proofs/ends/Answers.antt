@@ -1,5 +1,6 @@
 -- `ends` meets its contract. The loop's invariant: the walk from p has come to r. At each step one place fewer has no stamp.
 use native.Mathlib.Omega.{arith}
+use borrow.Author.Rules.{rules}
 use borrow.Author.Tests.{eqb-true, eqb-false, not-true, not-false}
 use Rattle.lists.specs.Tells.{tells_yes}
 use Rattle.audit.specs.Rings.{fewer, walk_from, walk_on, walk_ends, walk_ring}
@@ -29,8 +30,7 @@ loop-r-smaller c =
 
 pub loop-r-preserved : goal.loop-r-preserved
 loop-r-preserved c =
-    let e = c.wide.ensures in
-    rw e.0 (walk_on c.loop-r.invariant c.requires.1 c.loop-r-test.true c.if-stamp-ne0.false (rw e.0 at e.1))
+    walk_on c.loop-r.invariant c.requires.1 c.loop-r-test.true c.if-stamp-ne0.false (search rules)
 
 pub returns : goal.returns
 returns c =

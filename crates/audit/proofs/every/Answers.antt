@@ -5,17 +5,11 @@ use Rattle.lists.specs.Tells.{tells_yes, tells_no}
 use borrow.Author.Count.{below_more}
 use Rattle.audit.proofs.every.Goals as goal
 
-pub loop-p-init : goal.loop-p-init
-loop-p-init c = (omega arith, λ i h. absurd (omega arith))
-
-pub place-requires : goal.place-requires
-place-requires c = c.loop-p-test.true
-
 pub returns-then-not-place : goal.returns-then-not-place
 returns-then-not-place c = tells_no (c.loop-p.p, c.loop-p-test.true, sym c.place.ensures ∙ c.if-not-place.true)
 
 pub loop-p-preserved : goal.loop-p-preserved
-loop-p-preserved c = (omega arith, below_more _ _ c.loop-p.invariant.1 (sym c.place.ensures ∙ c.if-not-place.false))
+loop-p-preserved c = below_more _ _ c.loop-p.invariant (sym c.place.ensures ∙ c.if-not-place.false)
 
 pub returns : goal.returns
-returns c = tells_yes (λ p h. c.loop-p.invariant.1 p (omega arith))
+returns c = tells_yes (λ p h. c.loop-p.invariant p (omega arith))

@@ -1,7 +1,6 @@
 -- `every` meets its contract. The loop's invariant: the places passed pass.
-use Prim.Native.Nat.{ℕ, ◌≤◌, ◌<◌, ◌-◌}
+use Prim.Native.Nat.{ℕ, ◌<◌}
 use mathlib.Core.Path.{◌≡◌}
-use Rattle.rules.specs.Model.{places}
 use mathlib.Core.Bool.{true}
 use mathlib.Core.List.{[]}
 use Rattle.table.specs.Cells.{model_of}
@@ -9,7 +8,4 @@ use Rattle.audit.specs.Tests.{place_test}
 use Rattle.audit.proofs.every.Given as goal
 
 abbrev pub invariant-loop-p : goal.invariant-loop-p
-invariant-loop-p l = (l.p ≤ places) × ((i : ℕ) → i < l.p → place_test l.strict (model_of 0 l.running.0 l.b l.w []) l.at l.who i ≡ true)
-
-abbrev pub decreases-loop-p : goal.decreases-loop-p
-decreases-loop-p l = places - l.p
+invariant-loop-p l = (i : ℕ) → i < l.p → place_test l.strict (model_of 0 l.running.0 l.b l.w []) l.at l.who i ≡ true

@@ -12,20 +12,18 @@ use Rattle.audit.proofs.filling.Goals as goal
 use Rattle.audit.proofs.filling.Goals.{else-b-p-ne-EMPTY, then-b-p-ne-EMPTY}
 
 pub loop-p-init : goal.loop-p-init
-loop-p-init c = (omega arith, sym (upto_none places (stands_at c.args.b.now)))
+loop-p-init c = sym (upto_none places (stands_at c.args.b.now))
 
 pub loop-p-preserved : goal.loop-p-preserved
 loop-p-preserved c =
     let w = c.loop-p in
-    let h = c.loop-p-test.true in (
-      omega arith,
-      rw add-one (elim c.if-b-p-ne-EMPTY.branch [
-        | then-b-p-ne-EMPTY v ↦ v.x-is ∙ v.with-x.ensures (upto w.p (stands_at c.args.b.now)) w.invariant.1 ∙ upto_in places w.p (stands_at c.args.b.now) (ap not (ne_eqb _ _ v.if-b-p-ne-EMPTY.true))
-        | else-b-p-ne-EMPTY v ↦ v.x-is ∙ w.invariant.1 ∙ upto_out places w.p (stands_at c.args.b.now) (ap not (eq-eqb _ _ v.if-b-p-ne-EMPTY.false))
-      ]),
-    )
+    let h = c.loop-p-test.true in
+    rw add-one (elim c.if-b-p-ne-EMPTY.branch [
+      | then-b-p-ne-EMPTY v ↦ v.x-is ∙ v.with-x.ensures (upto w.p (stands_at c.args.b.now)) w.invariant ∙ upto_in places w.p (stands_at c.args.b.now) (ap not (ne_eqb _ _ v.if-b-p-ne-EMPTY.true))
+      | else-b-p-ne-EMPTY v ↦ v.x-is ∙ w.invariant ∙ upto_out places w.p (stands_at c.args.b.now) (ap not (eq-eqb _ _ v.if-b-p-ne-EMPTY.false))
+    ])
 
 pub returns : goal.returns
 returns c =
     let e : c.loop-p.p ≡ places = omega arith in
-    c.loop-p.invariant.1 ∙ rw e (upto_all places (stands_at c.args.b.now))
+    c.loop-p.invariant ∙ rw e (upto_all places (stands_at c.args.b.now))

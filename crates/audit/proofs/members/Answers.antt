@@ -15,9 +15,6 @@ pub returns-then-not-every : goal.returns-then-not-every
 returns-then-not-every c =
     tells_no (strangers_one (c.index.ensures.yes c.if-not-index.false) (c.every.ensures.no c.if-not-every.true))
 
-pub ringless-requires : goal.ringless-requires
-ringless-requires c = c.index.ensures.yes c.if-not-index.false
-
 pub returns : goal.returns
 returns c =
     told (c.index.ensures.yes c.if-not-index.false) (c.every.ensures.yes c.if-not-every.false)

@@ -1,8 +1,6 @@
 -- `place` meets its contract: six tests, of the thread that stands there.
-use mathlib.Core.Path.{sym, ap, ◌∙◌}
+use mathlib.Core.Path.{refl, sym, ◌∙◌}
 use mathlib.Core.List.{[]}
-use Prim.Native.Nat.{ℕ}
-use lib.ListN.{get_or}
 use Rattle.table.specs.Cells.{model_of, as_thread}
 use Rattle.table.specs.Rows.{thread_at}
 use Rattle.audit.specs.Loops.{seat_test_lem}
@@ -14,6 +12,6 @@ returns c =
     seat_test_lem c.args.strict (model_of 0 c.args.running.0 c.args.b.now c.args.w.now []) c.args.at.now c.args.who.now c.args.p.0 _ _
     (as_thread t.result) _ _ _ _ _
     (t.ensures ∙ sym (thread_at 0 c.args.running.0 c.args.b.now c.args.w.now [] c.args.p.0 c.requires))
-    (ap (λ (n : ℕ). get_or c.args.who.now n 0) c.wide.ensures.0)
+    refl
     c.fits.ensures c.runs_alone.ensures c.home.ensures (c.unheard.ensures c.args.w.now) c.names_live.ensures
     c.parented.ensures

@@ -1,10 +1,7 @@
 -- `seated` meets its contract: the ways are those of the definition.
-use Rattle.audit.specs.Loops.{desk_last, desk_idle, desk_high, desk_busy}
+use Rattle.audit.specs.Loops.{desk_idle, desk_high, desk_busy}
 use native.Mathlib.Omega.{arith}
 use Rattle.audit.proofs.seated.Goals as goal
-
-pub returns-then-d-gt-LAST_NUMBER : goal.returns-then-d-gt-LAST_NUMBER
-returns-then-d-gt-LAST_NUMBER c = λ w. let f = c.args in desk_last f.d.last.0 f.d.running.0 f.b.now w f.l.now c.if-d-gt-LAST_NUMBER.true
 
 pub returns-then-running : goal.returns-then-running
 returns-then-running c =

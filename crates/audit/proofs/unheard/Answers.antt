@@ -3,12 +3,9 @@ use mathlib.Core.Path.{ap}
 use mathlib.Core.List.{[]}
 use mathlib.Core.Bool.{not}
 use native.Mathlib.Omega.{arith}
-use borrow.Author.Tests.{eq-eqb, ne_eqb}
+use borrow.Author.Tests.{eq-eqb}
 use Rattle.table.specs.Rows.{thread_at, thread_past}
 use Rattle.audit.proofs.unheard.Goals as goal
-
-pub returns-then-t-ne-SENDING : goal.returns-then-t-ne-SENDING
-returns-then-t-ne-SENDING c = λ w. rw (ne_eqb c.args.t.standing 3 c.if-t-ne-SENDING.true)
 
 pub returns-then-r-ge-LIMIT : goal.returns-then-r-ge-LIMIT
 returns-then-r-ge-LIMIT c =

@@ -1,12 +1,9 @@
 -- `step` meets its contract: load's refusal, or what the record comes to.
-use Rattle.board.specs.Answers.{step_refused, load_holds, step_taken}
+use Rattle.board.specs.Answers.{step_refused, step_taken}
 use Rattle.board.proofs.step.Goals as goal
 
 pub returns-then-from-ne-DONE : goal.returns-then-from-ne-DONE
 returns-then-from-ne-DONE c = step_refused c.load-from.ensures c.if-from-ne-DONE.true c.decline.ensures
-
-pub take-requires : goal.take-requires
-take-requires c = load_holds c.load-from.ensures c.if-from-ne-DONE.false
 
 pub returns : goal.returns
 returns c =

@@ -1,6 +1,0 @@
--- `decline` meets its contract.
-use mathlib.Core.Path.{refl}
-use Rattle.board.proofs.decline.Goals as goal
-
-pub returns : goal.returns
-returns c = rw (c.kind.ensures, c.runs.ensures) refl
