@@ -48,6 +48,9 @@ abbrev pub outcome_of : Desk → Result Done Refusal → Outcome
 outcome_of d (Ok x) = record { code = 0; desk = x.desk; number = x.number }
 outcome_of d (Err e) = answered (refusal_code e) d
 
+pub done_is : (e : Desk) {x : Done} {d : Desk} → x ≡ done_at d → outcome_of e (Ok x) ≡ answered 0 d
+done_is e z = ap (λ (x : Done). outcome_of e (Ok x)) z
+
 -- what the core of the event e did to the arrays that it was lent
 abbrev pub DidIn : Desk → Arrays → Event → Result Done Refusal → Arrays → Type 0
 DidIn d a e r a' = Did d a.table.blocks a.table.words a.lines e (outcome_of d r) a'.table.blocks a'.table.words a'.lines

@@ -1,7 +1,8 @@
 -- A walk along a line, from its first place to the end, as a caller's loop makes it with `first` and `after`: what is left from each place on. Assumes nothing.
-use Rattle.std.specs.Prelude.{◌≡◌, List, [], ◌∷◌, true, Option, ℕ, ◌+◌, ◌≤◌, ◌<◌, ltb, length}
+use Rattle.std.specs.Prelude.{◌≡◌, refl, List, [], ◌∷◌, true, Option, Some, None, ℕ, ◌+◌, ◌≤◌, ◌<◌, ltb, length}
 use Rattle.std.proofs.Common.{sym, ap, ◌∙◌, arith, ltb-true, ltb-false}
-use Rattle.lists.specs.Lists.{none, KnownBy, among, front, rest}
+use Rattle.lists.specs.Lists.{none, known, KnownBy, among, front, rest}
+use Rattle.lists.specs.Known.{known_some}
 use Rattle.lists.specs.Laws.{by_test, never, front_some}
 use Rattle.lines.specs.Lines.{line_of, Tidy, next_in, Next}
 use Rattle.lines.specs.Arrays.{once, is_short}
@@ -10,6 +11,15 @@ use Rattle.lines.specs.Along.{on_from, from_front, from_next, next_front, on_amo
 -- the places of line q from p on
 abbrev pub left : ℕ → List ℕ → ℕ → ℕ → List ℕ
 left P l q p = on_from p (line_of P l q)
+
+-- the same, where the walk knows who is next, if anybody is
+abbrev pub ahead : ℕ → List ℕ → ℕ → Option ℕ → List ℕ
+ahead P l q None = []
+ahead P l q (Some p) = left P l q p
+
+pub ahead_short : (P : ℕ) (l : List ℕ) (q : ℕ) {o : Option ℕ} (x : ℕ) → o ≡ known x → length (ahead P l q o) ≤ length (left P l q x)
+ahead_short P l q {o = None} x e = omega arith
+ahead_short P l q {o = Some p} x e = let z = ap (λ (y : ℕ). length (left P l q y)) (known_some e refl).0 in omega arith
 
 -- the walk has come to p
 abbrev pub Reaches : ℕ → List ℕ → ℕ → ℕ → Type 0
@@ -58,6 +68,13 @@ module _ {P N : ℕ} {l : List ℕ} {q : ℕ} (k : Tidy P N l) (small : P ≤ no
             left_is = walk_here P l q p at f ∙ rw on;
             reaches = next_front p xs ∙ ap front (sym on);
           })
+
+      pub walk_less : {o : Option ℕ} → Next P N l p o → length (ahead P l q o) < length (left P l q p)
+      walk_less t =
+          let s = walk_on t in
+          let a = ap length s.2.left_is in
+          let e = ahead_short P l q s.0 s.1 in
+          omega arith
 
 -- ---- the line is counted: n so far
 pub record Counting (P : ℕ) (l : List ℕ) (q n p : ℕ) : Type 0 where

@@ -1,5 +1,5 @@
 -- Event 3, receive: the first match in the caller's inbox is taken, or the caller receives.
-use Rattle.std.specs.Prelude.{◌≡◌, refl, List, Bool, true, false, ◌&&◌, ℕ, ◌+◌, ◌≤◌, ◌<◌, eqb, get_or}
+use Rattle.std.specs.Prelude.{◌≡◌, refl, List, Result, Ok, Err, Bool, true, false, ◌&&◌, ℕ, ◌+◌, ◌≤◌, ◌<◌, eqb, get_or}
 use Rattle.std.proofs.Common.{sym, ap, subst, ◌∙◌, arith, eqb-true, eq-eqb, ne_eqb}
 use Rattle.std.proofs.lemmas.Bool.{eqb-false}
 use Rattle.lists.specs.Lists.{none, count, first_of}
@@ -7,7 +7,9 @@ use Rattle.lists.specs.Laws.{by_test}
 use Rattle.lists.specs.Counts.{some_among}
 use Rattle.lists.specs.Search.{first_ext_in, found_in}
 use Rattle.lines.specs.Lines.{line_of}
-use Rattle.rules.specs.Values.{nobody}
+use Rattle.rules.specs.Values.{nobody, refusal_code, code_in}
+use Rattle.rules.specs.declared.Place.{Place}
+use Rattle.rules.specs.declared.Refusal.{Refusal}
 use Rattle.rules.specs.Model.{places, last_number, Awaiting, Receiving, Thread, Model, inbox, thread, line}
 use Rattle.rules.specs.Rules.{mine, stands, told, leave, wants, takes, receive_from, receive, no_number, no_source, own_number, not_live, dead_source}
 use Rattle.rules.specs.declared.Number.{Number}
@@ -15,17 +17,16 @@ use Rattle.rules.specs.declared.Event.TheVariants.{Receive}
 use Rattle.order.specs.Accepted.{accepted}
 use Rattle.order.specs.Caller.{alive}
 use Rattle.order.specs.Stood.{stands_at_lem}
-use Rattle.table.specs.Cells.{cell, model_of, shown, Whole, Stands, inbox_lines, inbox_line}
+use Rattle.table.specs.Cells.{cell, model_of, shown, Whole, Stands, inbox_lines, inbox_line, running}
 use Rattle.table.specs.Rows.{thread_at, line_at}
 use Rattle.table.specs.declared.Desk.{Desk}
 use Rattle.events.specs.declared.Outcome.{Outcome}
-use Rattle.verbs.specs.Steps.{Steps, Turns, changing, running, then, stays, turns}
+use Rattle.verbs.specs.Steps.{Steps, Turns, changing, then, stays, turns}
 use Rattle.events.specs.Events.{Did, answered, refused, done, no_word}
 use Rattle.verbs.specs.Caller.{sounds, caller_place}
-use Rattle.verbs.specs.Address.{addressing, Addresses}
-use Rattle.verbs.specs.declared.address.Address.{Address}
+use Rattle.verbs.specs.Address.{addressing, Addressed, Addresses, refused_not}
 use Rattle.talk.specs.Pick.{taken, picked}
-use Rattle.talk.specs.Receive.{Sources}
+use Rattle.talk.specs.Receive.{SourcesBy, Sources}
 
 and_true : (a : Bool) → a && true ≡ a
 and_true true = refl
@@ -33,20 +34,23 @@ and_true false = refl
 
 module _ {d : Desk} {b : List ℕ} (n : Number) where
   -- a number is named: refused as for a send
-  pub source_named : (n.0 ≡ nobody → ⊥) → {r : Address} → Addresses d b n.0 r → Sources d b n r.code
+  pub source_named : (n.0 ≡ nobody → ⊥) → {r : Result Place Refusal} → Addresses d b n.0 r → Sources d b n r
   source_named z {r} e w l k =
       let m = shown d b w l in
       let s : no_source n.0 ≡ no_number n.0 = rw (ne_eqb n.0 nobody z) (and_true (no_number n.0)) in
       let t : dead_source m n.0 ≡ not_live m n.0 = rw (ne_eqb n.0 nobody z) in
       let a = e w l k in
-      let g : addressing m n.0 0 ≡ r.code = by_test (eqb r.code 0) (λ u. let y = eqb-true _ _ u in a.past y 0 ∙ sym y) (λ u. a.not (eqb-false _ _ u) 0) in
-      sym g ∙ sym (rw (s, t))
+      sym (coded r a) ∙ sym (rw (s, t))
+    where
+      coded : (r : Result Place Refusal) → Addressed d b w l n.0 r → addressing (shown d b w l) n.0 0 ≡ code_in r
+      coded (Ok p) a = a.past refl 0
+      coded (Err f) a = a.not refl 0
 
   module _ (any : n.0 ≡ nobody) where
-    pub source_1 : d.running.0 ≡ none → Sources d b n 1
+    pub source_1 : d.running.0 ≡ none → SourcesBy d b n 1
     source_1 e w l k = rw (eq-eqb d.running.0 none e)
 
-    pub source_0 : (d.running.0 ≡ none → ⊥) → Sources d b n 0
+    pub source_0 : (d.running.0 ≡ none → ⊥) → SourcesBy d b n 0
     source_0 busy w l k =
         let m = shown d b w l in
         let S = sounds k in
@@ -104,9 +108,9 @@ module _ {d : Desk} {b w l : List ℕ} (k : Stands d b w l) (busy : d.running.0 
   receives z s y = turns (receive n) s y (sym (looked ∙ rw z))
 
 -- ---- the event
-module _ {d : Desk} {b w l : List ℕ} (k : Stands d b w l) (n : Number) {c : ℕ} (a : Sources d b n c) where
-  pub receive_not : (c ≡ 0 → ⊥) → {o : Outcome} → o ≡ answered c d → Did d b w l (Receive n) o b w l
-  receive_not z = refused k (Receive n) no_word c z (sym (a w l k)) refl
+module _ {d : Desk} {b w l : List ℕ} (k : Stands d b w l) (n : Number) {c : ℕ} (a : SourcesBy d b n c) where
+  pub receive_not : (f : Refusal) → c ≡ refusal_code f → Did d b w l (Receive n) (answered (refusal_code f) d) b w l
+  receive_not f z = refused k (Receive n) no_word (refusal_code f) (refused_not f) (sym (a w l k) ∙ z) refl refl
 
   module _ (z : c ≡ 0) where
     pub receive_busy : d.running.0 ≡ none → ⊥

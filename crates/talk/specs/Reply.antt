@@ -1,23 +1,24 @@
 -- Event 4, reply: the replier goes to the back of ready, and the one that is answered runs at once.
-use Rattle.std.specs.Prelude.{◌≡◌, refl, List, Bool, true, false, cond, not, ◌&&◌, ℕ, ◌^◌, ◌<◌, eqb, length, get_or}
+use Rattle.std.specs.Prelude.{◌≡◌, refl, List, Result, Ok, Err, Bool, true, false, cond, not, ◌&&◌, ℕ, ◌^◌, ◌<◌, eqb, length, get_or}
 use Rattle.std.proofs.Common.{sym, ap, ap₂, ◌∙◌, arith, length-set}
 use Rattle.lists.specs.Lists.{tab}
 use Rattle.lists.specs.Tables.{length_tab}
-use Rattle.rules.specs.Values.{nobody}
 use Rattle.rules.specs.Model.{places, Running, Ready, Awaiting, Thread, thread}
 use Rattle.rules.specs.Rules.{mine, stands, told, readied, reply_to, reply, awaits_at, not_awaiting, refusal}
+use Rattle.rules.specs.Values.{nobody, refusal_code}
 use Rattle.rules.specs.declared.Number.{Number}
+use Rattle.rules.specs.declared.Place.{Place}
+use Rattle.rules.specs.declared.Refusal.{Refusal}
 use Rattle.rules.specs.declared.Event.TheVariants.{Reply}
-use Rattle.table.specs.Cells.{cell, thread_of, model_of, shown, Stands}
+use Rattle.table.specs.Cells.{cell, thread_of, model_of, shown, Stands, running}
 use Rattle.table.specs.Rows.{thread_at}
 use Rattle.table.specs.Stores.{awaits_of}
 use Rattle.table.specs.declared.Desk.{Desk}
-use Rattle.verbs.specs.declared.address.Address.{Address}
 use Rattle.events.specs.declared.Outcome.{Outcome}
-use Rattle.verbs.specs.Steps.{Steps, Turns, changing, running, then, turns, twice}
+use Rattle.verbs.specs.Steps.{Steps, Turns, changing, then, turns, twice}
 use Rattle.events.specs.Events.{Did, answered, refused, done, word_fits}
 use Rattle.verbs.specs.Caller.{mine_is}
-use Rattle.verbs.specs.Address.{CallsOn, met_place, Addressed}
+use Rattle.verbs.specs.Address.{CallsOn, met_place, Addressed, refused_not}
 
 module _ {d : Desk} {b w l : List ℕ} {n p : ℕ} (k : CallsOn d b w l n p) {me : ℕ} (own : me ≡ get_or b (cell 0 d.running.0) 0) where
   mine_me : mine (shown d b w l) ≡ me
@@ -43,11 +44,11 @@ module _ {d : Desk} {b w l : List ℕ} {n p : ℕ} (k : CallsOn d b w l n p) {me
 
 -- ---- the event
 
-module _ {d : Desk} {b w l : List ℕ} (k : Stands d b w l) (n : Number) (x : ℕ) (short : x < 2 ^ 32) {r : Address} (a : Addressed d b w l n.0 r) where
-  pub reply_not : (r.code ≡ 0 → ⊥) → {o : Outcome} → o ≡ answered r.code d → Did d b w l (Reply n x) o b w l
-  reply_not z = refused k (Reply n x) (word_fits short) r.code z (a.not z _) refl
+module _ {d : Desk} {b w l : List ℕ} (k : Stands d b w l) (n : Number) (x : ℕ) (short : x < 2 ^ 32) {r : Result Place Refusal} (a : Addressed d b w l n.0 r) where
+  pub reply_not : {f : Refusal} → r ≡ Err f → Did d b w l (Reply n x) (answered (refusal_code f) d) b w l
+  reply_not {f} z = refused k (Reply n x) (word_fits short) (refusal_code f) (refused_not f) (a.not z _) refl refl
 
-  module _ (z : r.code ≡ 0) {me : ℕ} (own : me ≡ get_or b (cell 0 d.running.0) 0) {t : Bool} (h : t ≡ awaits_of b r.at.0 me) where
+  module _ {p : Place} (z : r ≡ Ok p) {me : ℕ} (own : me ≡ get_or b (cell 0 d.running.0) 0) {t : Bool} (h : t ≡ awaits_of b p.0 me) where
     code : refusal (Reply n x) (shown d b w l) ≡ cond (not t) 5 0
     code = a.past z _ ∙ ap (λ (y : Bool). cond y 5 0) (awaited (a.calls z) own ∙ ap not (sym h))
 

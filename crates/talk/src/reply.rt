@@ -1,60 +1,38 @@
 // Event 4: reply.
 ghost use Rattle.rules.specs.Rules.{reply};
 ghost use Rattle.rules.specs.declared.Event.TheVariants.{Reply};
-ghost use Rattle.table.specs.Cells.{Stands};
-ghost use Rattle.verbs.specs.Steps.{Turns};
-ghost use Rattle.events.specs.Events.{Did};
-ghost use Rattle.verbs.specs.Address.{CallsOn};
+ghost use Rattle.table.specs.Cells.{StandsIn};
+ghost use Rattle.verbs.specs.Steps.{TurnsIn};
+ghost use Rattle.events.specs.Events.{DidIn};
+ghost use Rattle.verbs.specs.Address.{CallsIn};
 
-use events::{Outcome, answer};
-use lines::Links;
-use rules::{Number, Place, codes};
-use table::{Blocks, Desk, Words};
+use events::Done;
+use rules::{Number, Place, Refusal, codes};
+use table::{Arrays, Desk};
 use verbs::address::whom;
 
 // The thread at p, of the number `to`, has its reply and runs at once; the caller goes to the back of ready.
-fn hand_over(
-    b: &mut Blocks,
-    w: &mut Words,
-    l: &mut Links,
-    d: Desk,
-    to: Number,
-    word: u32,
-    p: Place,
-) -> Desk
-    requires { CallsOn d b.old w.old l.old to.0 p.0 }
-    ensures { Turns d b.old w.old l.old result b.new w.new l.new (reply to.0 word) }
+fn hand_over(a: &mut Arrays, d: Desk, to: Number, word: u32, p: Place) -> Desk
+    requires { CallsIn d a.old to.0 p.0 }
+    ensures { TurnsIn d a.old result a.new (reply to.0 word) }
 {
     let c = d.running;
-    let me = table::number_of(b, c);
-    verbs::ready(b, w, l, c);
-    table::tell(b, w, p, 0, me, word);
-    table::stand(b, w, p, rules::RUNNING, Number(rules::NOBODY), 0);
-    verbs::turn_to(d, p)
+    let me = a.table.number_of(c);
+    verbs::ready(a, c);
+    a.table.tell(p, codes::DONE, me, word);
+    a.table.stand(p, rules::RUNNING, Number(rules::NOBODY), 0);
+    d.turned_to(p)
 }
 
 // 4. The caller replies to the number `to`, which awaits it.
-pub fn reply(
-    b: &mut Blocks,
-    w: &mut Words,
-    l: &mut Links,
-    d: Desk,
-    to: Number,
-    word: u32,
-) -> Outcome
-    requires { Stands d b.old w.old l.old }
-    ensures { Did d b.old w.old l.old (Reply to word) result b.new w.new l.new }
+pub fn reply(a: &mut Arrays, d: Desk, to: Number, word: u32) -> Result<Done, Refusal>
+    requires { StandsIn d a.old }
+    ensures { DidIn d a.old (Reply to word) result a.new }
 {
-    let a = whom(b, d, to);
-    if a.code != codes::DONE {
-        return answer(a.code, d);
+    let p = whom(&a.table, d, to)?;
+    let me = a.table.number_of(d.running);
+    if !a.table.awaits(p, me) {
+        return Err(Refusal::NotAwaiting);
     }
-    let p = a.at;
-    let c = d.running;
-    let me = table::number_of(b, c);
-    if !table::awaits(b, p, me) {
-        return answer(codes::NOT_AWAITING, d);
-    }
-    let e = hand_over(b, w, l, d, to, word, p);
-    answer(codes::DONE, e)
+    Ok(Done::at(hand_over(a, d, to, word, p)))
 }

@@ -13,6 +13,7 @@ use Rattle.rules.specs.Rules.{place_of, idle, mine, no_number, own_number, not_l
 use Rattle.order.specs.Sound.{small}
 use Rattle.order.specs.Places.{placed}
 use Rattle.table.specs.Cells.{cell, shown, Stands}
+use Rattle.table.specs.declared.Arrays.{Arrays}
 use Rattle.table.specs.declared.Desk.{Desk}
 use Rattle.verbs.specs.Caller.{sounds, caller_place, mine_is}
 use Rattle.verbs.specs.Find.{found, found_is}
@@ -87,6 +88,10 @@ pub record CallsOn (d : Desk) (b w l : List ℕ) (n p : ℕ) : Type 0 where
   pub busy : d.running.0 ≡ none → ⊥
   pub at : place_of (shown d b w l) n ≡ p
   pub known : p ≡ none → ⊥
+
+-- the same of the arrays as they are lent
+abbrev pub CallsIn : Desk → Arrays → ℕ → ℕ → Type 0
+CallsIn d a n p = CallsOn d a.table.blocks a.table.words a.lines n p
 
 pub record Addressed (d : Desk) (b w l : List ℕ) (n : ℕ) (r : Result Place Refusal) : Type 0 where
   pub not : {e : Refusal} → r ≡ Err e → (x : ℕ) → addressing (shown d b w l) n x ≡ refusal_code e

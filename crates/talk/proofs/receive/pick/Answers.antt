@@ -1,33 +1,40 @@
 -- `pick` meets its contract: whom a search from here on finds is whom the whole search finds.
-use native.Mathlib.Omega.{arith}
-use Rattle.talk.specs.Pick.{pick_start, pick_end, pick_place, pick_here, pick_again, pick_less}
+use mathlib.Core.Path.{◌≡◌, sym, ap, ◌∙◌}
+use mathlib.Core.Bool.{Bool, ◌||◌}
+use lib.Dec.{eqb}
+use Rattle.lists.specs.Known.{known_none}
+use Rattle.rules.specs.Values.{place_known}
+use Rattle.rules.specs.Known.{place_at}
+use Rattle.talk.specs.Pick.{pick_start, pick_at, pick_end, pick_place, pick_here, pick_again, pick_less}
 use Rattle.talk.proofs.receive.pick.Goals as goal
 
-pub first-p-requires : goal.first-p-requires
-first-p-requires c = c.requires
-
-pub loop-p-init : goal.loop-p-init
-loop-p-init c = pick_start _ _ _ _ _ c.first-p.ensures
+pub loop-next-init : goal.loop-next-init
+loop-next-init c = pick_start _ _ _ _ c.first-next.ensures
 
 pub number_of-k-requires : goal.number_of-k-requires
-number_of-k-requires c = pick_place c.loop-p.invariant c.requires.0 c.requires.1 c.loop-p-test.true
+number_of-k-requires c = let g = pick_at c.loop-next.invariant c.in-Some.is in pick_place g.0 c.requires.0 c.requires.1 g.1
 
-pub returns-then-n-k : goal.returns-then-n-k
-returns-then-n-k c =
-    pick_here c.loop-p.invariant c.requires.0 c.requires.1 c.loop-p-test.true c.number_of-k.ensures c.if-n-k.true
+pub returns-then-n-eq : goal.returns-then-n-eq
+returns-then-n-eq c =
+    let g = pick_at c.loop-next.invariant c.in-Some.is in
+    let e = ap (λ (t : Bool). eqb c.args.n.0 255 || t) (sym c.eq.ensures) ∙ c.if-n-eq.true in
+    place_at (sym (pick_here g.0 c.requires.0 c.requires.1 g.1 c.number_of-k.ensures e)) g.1
 
-pub after-p-requires : goal.after-p-requires
-after-p-requires c =
-    (c.requires.0, pick_place c.loop-p.invariant c.requires.0 c.requires.1 c.loop-p-test.true)
+pub after-next-requires : goal.after-next-requires
+after-next-requires c = let g = pick_at c.loop-next.invariant c.in-Some.is in (c.requires.0, pick_place g.0 c.requires.0 c.requires.1 g.1)
 
-pub loop-p-smaller : goal.loop-p-smaller
-loop-p-smaller c =
-    pick_less c.loop-p.invariant c.requires.0 c.requires.1 c.loop-p-test.true c.after-p.ensures
+pub loop-next-smaller : goal.loop-next-smaller
+loop-next-smaller c =
+    let g = pick_at c.loop-next.invariant c.in-Some.is in
+    rw c.in-Some.is (pick_less g.0 c.requires.0 c.requires.1 g.1 c.after-next.ensures)
 
-pub loop-p-preserved : goal.loop-p-preserved
-loop-p-preserved c =
-    pick_again c.loop-p.invariant c.requires.0 c.requires.1 c.loop-p-test.true c.after-p.ensures
-    c.number_of-k.ensures c.if-n-k.false
+pub loop-next-preserved : goal.loop-next-preserved
+loop-next-preserved c =
+    let g = pick_at c.loop-next.invariant c.in-Some.is in
+    let e = ap (λ (t : Bool). eqb c.args.n.0 255 || t) (sym c.eq.ensures) ∙ c.if-n-eq.false in
+    pick_again g.0 c.requires.0 c.requires.1 g.1 c.after-next.ensures c.number_of-k.ensures e
 
 pub returns : goal.returns
-returns c = pick_end c.loop-p.invariant c.requires.0 c.requires.1 (omega (arith, c.loop-p-test.false))
+returns c =
+    let v = c.loop-next.invariant in
+    ap place_known (pick_end v.2 c.requires.0 c.requires.1 (known_none v.1 c.in_default.is))

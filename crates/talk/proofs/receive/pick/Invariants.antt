@@ -1,12 +1,13 @@
 -- `pick` meets its contract: whom a search from here on finds is whom the whole search finds.
 use lib.ListN.{length}
-use Rattle.lines.specs.Passes.{left}
+use Rattle.lists.specs.Lists.{KnownBy}
+use Rattle.lines.specs.Passes.{ahead}
 use Rattle.rules.specs.Model.{places}
 use Rattle.talk.specs.Pick.{Picking}
 use Rattle.talk.proofs.receive.pick.Given as goal
 
-abbrev pub invariant-loop-p : goal.invariant-loop-p
-invariant-loop-p l = Picking l.b l.l l.q l.n.0 l.p
+abbrev pub invariant-loop-next : goal.invariant-loop-next
+invariant-loop-next l = KnownBy (Picking l.a.table.blocks l.a.lines l.q l.n.0) l.next
 
-abbrev pub decreases-loop-p : goal.decreases-loop-p
-decreases-loop-p l = length (left places l.l l.q l.p)
+abbrev pub decreases-loop-next : goal.decreases-loop-next
+decreases-loop-next l = length (ahead places l.a.lines l.q l.next)

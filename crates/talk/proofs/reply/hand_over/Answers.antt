@@ -22,4 +22,4 @@ pub returns : goal.returns
 returns c =
     let s = heard c.ready.ensures.whole (met_place c.requires) c.tell.ensures in
     replied c.requires c.number_of-me.ensures c.ready.ensures s
-    (stood s.whole (met_place c.requires) c.stand.ensures) c.turn_to.ensures
+    (stood s.whole (met_place c.requires) c.stand.ensures) c.turned_to.ensures

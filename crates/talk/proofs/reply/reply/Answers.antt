@@ -1,39 +1,32 @@
+-- `reply` meets its contract: refused as the address is, or because it is not awaited, or handed over.
+use mathlib.Core.Path.{refl}
 use native.Mathlib.Omega.{arith}
 use Rattle.verbs.specs.Caller.{caller_place}
-use Rattle.verbs.specs.Address.{seated, met_place}
+use Rattle.events.specs.Events.{done_is}
+use Rattle.verbs.specs.Address.{handed_on, met_place}
 use Rattle.talk.specs.Reply.{reply_not, reply_5, reply_0}
 use Rattle.talk.proofs.reply.reply.Goals as goal
 
--- `reply` meets its contract: refused with the code of the address, or because it is not awaited, or handed over.
-
-pub whom-a-requires : goal.whom-a-requires
-whom-a-requires c = seated c.requires
-
-pub returns-then-a-ne-DONE : goal.returns-then-a-ne-DONE
-returns-then-a-ne-DONE c =
-    reply_not c.requires _ c.args.word (omega (arith, c.ranges)) (c.whom-a.ensures _ _ c.requires) c.if-a-ne-DONE.true
-    c.answer.ensures
+pub returns-in_err-p : goal.returns-in_err-p
+returns-in_err-p c =
+    rw (handed_on c.from_residual.ensures.1) (reply_not c.requires c.args.to c.args.word (omega (arith, c.ranges)) (c.whom.ensures _ _ c.requires) c.in_err-p.was)
 
 pub number_of-me-requires : goal.number_of-me-requires
-number_of-me-requires c =
-    caller_place c.requires ((c.whom-a.ensures _ _ c.requires).calls (omega (arith, c.if-a-ne-DONE.false))).busy
+number_of-me-requires c = caller_place c.requires ((c.whom.ensures _ _ c.requires).calls c.in_ok-p.was).busy
 
 pub awaits-requires : goal.awaits-requires
-awaits-requires c =
-    met_place ((c.whom-a.ensures _ _ c.requires).calls (omega (arith, c.if-a-ne-DONE.false)))
+awaits-requires c = met_place ((c.whom.ensures _ _ c.requires).calls c.in_ok-p.was)
 
 pub returns-then-not-awaits : goal.returns-then-not-awaits
 returns-then-not-awaits c =
-    reply_5 c.requires _ c.args.word (omega (arith, c.ranges)) (c.whom-a.ensures _ _ c.requires)
-    (omega (arith, c.if-a-ne-DONE.false)) c.number_of-me.ensures c.awaits.ensures c.if-not-awaits.true
-    c.answer-then-not-awaits.ensures
+    reply_5 c.requires c.args.to c.args.word (omega (arith, c.ranges)) (c.whom.ensures _ _ c.requires)
+    c.in_ok-p.was c.number_of-me.ensures c.awaits.ensures c.if-not-awaits.true refl
 
-pub hand_over-e-requires : goal.hand_over-e-requires
-hand_over-e-requires c =
-    (c.whom-a.ensures _ _ c.requires).calls (omega (arith, c.if-a-ne-DONE.false))
+pub hand_over-requires : goal.hand_over-requires
+hand_over-requires c = (c.whom.ensures _ _ c.requires).calls c.in_ok-p.was
 
 pub returns : goal.returns
 returns c =
-    reply_0 c.requires _ c.args.word (omega (arith, c.ranges)) (c.whom-a.ensures _ _ c.requires)
-    (omega (arith, c.if-a-ne-DONE.false)) c.number_of-me.ensures c.awaits.ensures c.if-not-awaits.false
-    c.hand_over-e.ensures c.answer-2.ensures
+    reply_0 c.requires c.args.to c.args.word (omega (arith, c.ranges)) (c.whom.ensures _ _ c.requires)
+    c.in_ok-p.was c.number_of-me.ensures c.awaits.ensures c.if-not-awaits.false
+    c.hand_over.ensures (done_is c.args.d c.at.ensures)

@@ -23,7 +23,7 @@ wake-requires c =
 pub returns-then-listens : goal.returns-then-listens
 returns-then-listens c =
     let s = stood c.requires.stands.whole (caller_place c.requires.stands c.requires.busy) c.stand.ensures in
-    met c.requires c.number_of-me.ensures c.listens.ensures c.if-listens.true c.turn_to-e.ensures
+    met c.requires c.number_of-me.ensures c.listens.ensures c.if-listens.true c.turned_to-e.ensures
     (then s c.wake.ensures)
 
 pub stand-requires-2 : goal.stand-requires-2
@@ -42,5 +42,5 @@ pub returns : goal.returns
 returns c =
     let h = met_place c.requires in
     let s = stood c.requires.stands.whole (caller_place c.requires.stands c.requires.busy) c.stand-2.ensures in
-    unmet c.requires c.number_of-me.ensures c.listens.ensures c.if-listens.false c.turn_to-e.ensures
+    unmet c.requires c.number_of-me.ensures c.listens.ensures c.if-listens.false c.turned_to-e.ensures
     (then s (joined s.whole (omega arith) c.join.ensures))
