@@ -1,10 +1,10 @@
 -- What the loops of the test keep, and what they have found where they stop.
-use Rattle.std.specs.Prelude.{ℕ, suc, ◌+◌, ◌≤◌, ◌<◌, ◌≡◌, refl, ◌≢◌, List, Bool, true, false, ◌&&◌, length, get_or, set, replicate, eqb}
+use Rattle.std.specs.Prelude.{ℕ, suc, ◌+◌, ◌≤◌, ◌<◌, ◌≡◌, refl, ◌≢◌, List, Option, is_some, Bool, true, false, not, ◌&&◌, length, get_or, set, replicate, eqb}
 use Rattle.std.proofs.Common.{sym, ap, ◌∙◌, add-one, arith, length-set, get_or-set_same, get_or-set_other, eq-eqb, ne_eqb, le-leb}
 use Rattle.std.proofs.Math.Decide.{ℕ_discrete}
 use Rattle.std.proofs.lemmas.List.{length-replicate, get_or-replicate}
 use Rattle.std.proofs.lemmas.Bool.{eqb-false, not-true}
-use Rattle.lists.specs.Lists.{none, front}
+use Rattle.lists.specs.Lists.{none, front, known}
 use Rattle.lists.specs.Laws.{never}
 use Rattle.lists.specs.Tells.{Tells}
 use Rattle.lines.specs.Lines.{line_of, Tidy}
@@ -113,10 +113,16 @@ AllPass r f = Tells r ((p : ℕ) → p < places → f p ≡ true) ((p : ℕ) × 
 
 -- ---- the desk
 
+-- whether a place that a number stands for is missing is whether the number is none
+nobody_known : (x : ℕ) (r : Bool) → is_some (known x) ≡ not r → r ≡ eqb x none
+nobody_known x r e = grind arith
+
 module _ (y x : ℕ) (b w l : List ℕ) where
   module _ (low : y ≤ last_number) where
-    pub desk_idle : Tidy places line_count l → x ≡ none → (r : ℕ) → r ≡ front (line_of places l ready) → eqb r none ≡ desk_test (model_of y x b w l)
-    desk_idle t z r e = rw (le-leb y last_number low, eq-eqb x none z, line_at y x b w l ready (omega arith), e) (nil_front (line_of places l ready) (no_place t (omega arith) none ready (omega arith) (omega arith)))
+    pub desk_idle : Tidy places line_count l → x ≡ none → {o : Option ℕ} → o ≡ known (front (line_of places l ready)) → {r : Bool} → is_some o ≡ not r → r ≡ desk_test (model_of y x b w l)
+    desk_idle t z {o} e {r} n =
+        rw (le-leb y last_number low, eq-eqb x none z, line_at y x b w l ready (omega arith))
+        (nobody_known _ r (rw e at n) ∙ nil_front (line_of places l ready) (no_place t (omega arith) none ready (omega arith) (omega arith)))
 
     module _ (busy : x ≢ none) where
       pub desk_high : places ≤ x → false ≡ desk_test (model_of y x b w l)

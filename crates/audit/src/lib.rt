@@ -8,18 +8,18 @@ ghost use Rattle.lists.specs.Tells.{Tells};
 ghost use Rattle.lines.specs.Lines.{Tidy};
 ghost use Rattle.rules.specs.Model.{places, line_count, thread};
 ghost use Rattle.rules.specs.Consistent.{as_table, is_answer};
-ghost use Rattle.table.specs.Cells.{model_of, shown, Filled, StandsBy, Stands, as_thread};
+ghost use Rattle.table.specs.Cells.{model_of, shown, Filled, StandsByIn, StandsIn, as_thread};
 ghost use Rattle.audit.specs.Tests.{is_clean, fits as fitting, home as home_of, runs_alone, unheard as quietTo, names_live, parent_found, place_test, desk_test};
 ghost use Rattle.audit.specs.Loops.{Indexed, Twice, AllPass};
 ghost use Rattle.audit.specs.Rings.{Rises, Ring, Stamped};
 ghost use Rattle.audit.specs.Whole.{Members, Strangers};
 
-use lines::{DEVICES, Links, NONE, PLACES};
+use lines::{DEVICES, NONE, PLACES};
 use rules::{
     AT_DEVICE, AWAITING, EMPTY, LAST_NUMBER, NOBODY, Number, Place, READY, RECEIVING, RUNNING,
     SENDING, WAITING, codes,
 };
-use table::{Blocks, Desk, Thread, Words};
+use table::{Arrays, Desk, Table, Thread};
 
 // The number of places, as a place is.
 const LIMIT: u8 = PLACES as u8;
@@ -76,7 +76,7 @@ fn fits(t: Thread) -> bool
     let a = t.answer;
     let answer = is_answer(a.code, a.who, a.word);
     let table = as_table(t.standing, t.partner, t.word);
-    let apart = (t.standing == AT_DEVICE) | (t.partner.0 != t.number.0);
+    let apart = (t.standing == AT_DEVICE) | (t.partner != t.number);
     (t.number.0 <= LAST_NUMBER) & (table & (apart & answer))
 }
 
@@ -99,17 +99,17 @@ fn home(who: &[u8; ENTRIES], t: Thread) -> u8
     }
 }
 
-// Is the owner of the inbox in which t would stand, at r, not waiting to hear it?
-fn unheard(b: &Blocks, r: Place, t: Thread) -> bool
-    ensures { (w : List ℕ) → result ≡ quietTo (thread (model_of 0 0 b.now w []) r.0) (as_thread t) }
+// Is the owner of the inbox in which one would stand, at r, not waiting to hear it?
+fn unheard(t: &Table, r: Place, one: Thread) -> bool
+    ensures { (w : List ℕ) → result ≡ quietTo (thread (model_of 0 0 t.now.blocks w []) r.0) (as_thread one) }
 {
-    if t.standing != SENDING {
+    if one.standing != SENDING {
         return true;
     }
     if r.0 >= LIMIT {
         return true;
     }
-    !table::listens(b, r, t.number)
+    !t.listens(r, one.number)
 }
 
 // Is t, at p, the one that runs, if it stands as running?
@@ -117,7 +117,7 @@ fn runs_alone(running: Place, p: Place, t: Thread) -> bool
     ensures { result ≡ runs_alone running.0 p.0 (as_thread t) }
 {
     if t.standing == RUNNING {
-        return running.0 == p.0;
+        return running == p;
     }
     true
 }
@@ -147,35 +147,33 @@ fn parented(who: &[u8; ENTRIES], t: Thread) -> bool
 // Does the place p pass, with all that it has to do with others?
 fn place(
     strict: bool,
-    b: &Blocks,
-    w: &Words,
+    t: &Table,
     at: &[u8; PLACES],
     who: &[u8; ENTRIES],
     running: Place,
     p: Place,
 ) -> bool
     requires { p.0 < places }
-    ensures { result ≡ place_test strict (model_of 0 running.0 b.now w.now []) at.now who.now p.0 }
+    ensures { result ≡ place_test strict (model_of 0 running.0 t.now.blocks t.now.words []) at.now who.now p.0 }
 {
-    let t = table::read(b, w, p);
-    let r = Place(who[t.partner.0 as usize]);
-    let seated = at[p.0 as usize] == home(who, t);
-    let others = unheard(b, r, t) & (names_live(strict, r, t) & parented(who, t));
-    fits(t) & (runs_alone(running, p, t) & (seated & others))
+    let held = t.read(p);
+    let r = Place(who[held.partner.0 as usize]);
+    let seated = at[p.0 as usize] == home(who, held);
+    let others = unheard(t, r, held) & (names_live(strict, r, held) & parented(who, held));
+    fits(held) & (runs_alone(running, p, held) & (seated & others))
 }
 
 // ---- the index of numbers
 
 // The thread at p, if one stands there, enters the index. False where its number is taken.
-fn enter(b: &Blocks, who: &mut [u8; ENTRIES], p: Place) -> bool
-    requires { (p.0 < places) × Indexed b.now who.old p.0 }
-    ensures { Tells result (Indexed b.now who.new (p.0 + 1)) (Twice b.now) }
+fn enter(t: &Table, who: &mut [u8; ENTRIES], p: Place) -> bool
+    requires { (p.0 < places) × Indexed t.now.blocks who.old p.0 }
+    ensures { Tells result (Indexed t.now.blocks who.new (p.0 + 1)) (Twice t.now.blocks) }
 {
-    let at = p.0 as usize;
-    if b[table::STANDING + at] == EMPTY {
+    if t.standing_of(p) == EMPTY {
         return true;
     }
-    let n = b[table::NUMBER + at] as usize;
+    let n = t.number_of(p).0 as usize;
     if who[n] != NONE {
         return false;
     }
@@ -184,12 +182,12 @@ fn enter(b: &Blocks, who: &mut [u8; ENTRIES], p: Place) -> bool
 }
 
 // Every thread enters the index.
-fn index(b: &Blocks, who: &mut [u8; ENTRIES]) -> bool
-    requires { Indexed b.now who.old 0 }
-    ensures { Tells result (Indexed b.now who.new places) (Twice b.now) }
+fn index(t: &Table, who: &mut [u8; ENTRIES]) -> bool
+    requires { Indexed t.now.blocks who.old 0 }
+    ensures { Tells result (Indexed t.now.blocks who.new places) (Twice t.now.blocks) }
 {
     for p in 0..LIMIT {
-        if !enter(b, who, Place(p)) {
+        if !enter(t, who, Place(p)) {
             return false;
         }
     }
@@ -200,9 +198,9 @@ fn index(b: &Blocks, who: &mut [u8; ENTRIES]) -> bool
 
 // From parent to parent, does one come from the place p to nobody? Each place on the way is stamped with p + 1, and a stamp stops the walk, so that all walks
 // together leave each place once. An older stamp says that one comes from there to nobody, the walk's own that it has come back: parents form a ring.
-fn ends(b: &Blocks, who: &[u8; ENTRIES], stamps: &mut [u8; PLACES], p: u8) -> bool
-    requires { (p < places) × Indexed b.now who.now places × Stamped b.now who.now stamps.old p }
-    ensures { Tells result (Stamped b.now who.now stamps.new (p + 1)) (Ring b.now who.now) }
+fn ends(t: &Table, who: &[u8; ENTRIES], stamps: &mut [u8; PLACES], p: u8) -> bool
+    requires { (p < places) × Indexed t.now.blocks who.now places × Stamped t.now.blocks who.now stamps.old p }
+    ensures { Tells result (Stamped t.now.blocks who.now stamps.new (p + 1)) (Ring t.now.blocks who.now) }
 {
     let own = p + 1;
     let mut r = p;
@@ -213,19 +211,19 @@ fn ends(b: &Blocks, who: &[u8; ENTRIES], stamps: &mut [u8; PLACES], p: u8) -> bo
             return stamp != own;
         }
         stamps[at] = own;
-        r = who[b[table::PARENT + at] as usize];
+        r = who[t.parent_of(Place(r)).0 as usize];
     }
     true
 }
 
 // Does one come from every place to nobody? If not, parents form a ring.
-fn ringless(b: &Blocks, who: &[u8; ENTRIES]) -> bool
-    requires { Indexed b.now who.now places }
-    ensures { Tells result ((p : ℕ) → p < places → Rises b.now who.now p) (Ring b.now who.now) }
+fn ringless(t: &Table, who: &[u8; ENTRIES]) -> bool
+    requires { Indexed t.now.blocks who.now places }
+    ensures { Tells result ((p : ℕ) → p < places → Rises t.now.blocks who.now p) (Ring t.now.blocks who.now) }
 {
     let mut stamps = [0; PLACES];
     for p in 0..LIMIT {
-        if !ends(b, who, &mut stamps, p) {
+        if !ends(t, who, &mut stamps, p) {
             return false;
         }
     }
@@ -235,18 +233,11 @@ fn ringless(b: &Blocks, who: &[u8; ENTRIES]) -> bool
 // ---- all places
 
 // Does every place pass?
-fn every(
-    strict: bool,
-    b: &Blocks,
-    w: &Words,
-    at: &[u8; PLACES],
-    who: &[u8; ENTRIES],
-    running: Place,
-) -> bool
-    ensures { AllPass result (place_test strict (model_of 0 running.0 b.now w.now []) at.now who.now) }
+fn every(strict: bool, t: &Table, at: &[u8; PLACES], who: &[u8; ENTRIES], running: Place) -> bool
+    ensures { AllPass result (place_test strict (model_of 0 running.0 t.now.blocks t.now.words []) at.now who.now) }
 {
     for p in 0..LIMIT {
-        if !place(strict, b, w, at, who, running, Place(p)) {
+        if !place(strict, t, at, who, running, Place(p)) {
             return false;
         }
     }
@@ -254,12 +245,12 @@ fn every(
 }
 
 // The word of the places where a thread stands.
-pub fn filling(b: &Blocks) -> u64
-    ensures { Filled result b.now }
+pub fn filling(t: &Table) -> u64
+    ensures { Filled result t.now.blocks }
 {
     let mut x: u64 = 0;
     for p in 0..LIMIT {
-        if b[table::STANDING + p as usize] != EMPTY {
+        if t.standing_of(Place(p)) != EMPTY {
             x = filled::with(x, p);
         }
     }
@@ -267,59 +258,59 @@ pub fn filling(b: &Blocks) -> u64
 }
 
 // Is the last number given a number, and does the running place agree with standings and ready?
-fn seated(b: &Blocks, l: &Links, d: Desk) -> bool
-    requires { Tidy places line_count l.now }
-    ensures { (w : List ℕ) → result ≡ desk_test (shown d b.now w l.now) }
+fn seated(a: &Arrays, d: Desk) -> bool
+    requires { Tidy places line_count a.now.lines }
+    ensures { (w : List ℕ) → result ≡ desk_test (shown d a.now.table.blocks w a.now.lines) }
 {
     if d.last.0 > LAST_NUMBER {
         return false;
     }
-    let running = d.running.0;
-    if running == NONE {
-        return lines::first(l, table::READY_LINE) == NONE;
-    }
-    if running >= LIMIT {
+    let Some(p) = d.runner() else {
+        return lines::first(&a.lines, table::READY_LINE).is_none();
+    };
+    if p.0 >= LIMIT {
         return false;
     }
-    b[table::STANDING + running as usize] == RUNNING
+    a.table.standing_of(p) == RUNNING
 }
 
 // ---- the whole
 
 // Do all places pass, each with all that it has to do with others, and do parents form no ring?
-fn members(strict: bool, b: &Blocks, w: &Words, at: &[u8; PLACES], running: Place) -> bool
-    ensures { Tells result (Members strict running.0 b.now w.now at.now) (Strangers strict running.0 b.now w.now at.now) }
+fn members(strict: bool, t: &Table, at: &[u8; PLACES], running: Place) -> bool
+    ensures { Tells result (Members strict running.0 t.now.blocks t.now.words at.now) (Strangers strict running.0 t.now.blocks t.now.words at.now) }
 {
     let mut who = [NONE; ENTRIES];
-    if !index(b, &mut who) {
+    if !index(t, &mut who) {
         return false;
     }
-    if !every(strict, b, w, at, &who, running) {
+    if !every(strict, t, at, &who, running) {
         return false;
     }
-    ringless(b, &who)
+    ringless(t, &who)
 }
 
 // Do the desk and the arrays stand for a consistent nucleus? Any may come. Where strict is false, what counts is the old rules' idea of consistent.
-pub fn consistent_by(strict: bool, b: &Blocks, w: &Words, l: &Links, d: Desk) -> bool
-    ensures { Tells result (StandsBy strict d b.now w.now l.now) (StandsBy strict d b.now w.now l.now → ⊥) }
+pub fn consistent_by(strict: bool, a: &Arrays, d: Desk) -> bool
+    ensures { Tells result (StandsByIn strict d a.now) (StandsByIn strict d a.now → ⊥) }
 {
-    let seats = lines::survey(l);
-    if !seats.tidy {
+    // Once a byte and a word are read, the sizes of the two arrays are known, and that a word is one.
+    let (_byte, _word) = (a.table.blocks[0], a.table.words[0]);
+    let Some(at) = lines::survey(&a.lines) else {
+        return false;
+    };
+    if !members(strict, &a.table, &at, d.running) {
         return false;
     }
-    if !members(strict, b, w, &seats.at, d.running) {
+    if !seated(a, d) {
         return false;
     }
-    if !seated(b, l, d) {
-        return false;
-    }
-    filling(b) == d.filled
+    filling(&a.table) == d.filled
 }
 
 // The same, by the rules as they are.
-pub fn consistent(b: &Blocks, w: &Words, l: &Links, d: Desk) -> bool
-    ensures { Tells result (Stands d b.now w.now l.now) (Stands d b.now w.now l.now → ⊥) }
+pub fn consistent(a: &Arrays, d: Desk) -> bool
+    ensures { Tells result (StandsIn d a.now) (StandsIn d a.now → ⊥) }
 {
-    consistent_by(true, b, w, l, d)
+    consistent_by(true, a, d)
 }

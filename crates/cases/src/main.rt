@@ -116,7 +116,7 @@ fn refused(rt: &impl Print) -> io::Result<()> {
 
 fn wrapped(rt: &impl Print) -> io::Result<()> {
     let mut s = State::fresh().create().state;
-    s.last = Number(rules::LAST_NUMBER);
+    s.desk.last = Number(rules::LAST_NUMBER);
     line(
         rt,
         "last given 253, only 0 live: create",
@@ -130,7 +130,7 @@ fn wrapped(rt: &impl Print) -> io::Result<()> {
 fn passed_over(rt: &impl Print) -> io::Result<()> {
     let log = b"\x01\x01\x02\x01\x07\0\0\0\x05\x01";
     let mut s = after(log);
-    s.last = Number(rules::LAST_NUMBER);
+    s.desk.last = Number(rules::LAST_NUMBER);
     line(
         rt,
         "last given 253, only 0 live, its answer's who 1: create",

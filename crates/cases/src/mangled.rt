@@ -129,37 +129,37 @@ fn desks(rt: &impl Print, s: State) -> io::Result<()> {
 // well, and be no shorter.
 fn byte(mut s: State, at: usize, x: u8) -> State {
     if at < table::BYTES {
-        s.blocks[at] = x;
+        s.arrays.table.blocks[at] = x;
     }
     s
 }
 
 fn word(mut s: State, at: usize, x: u32) -> State {
     if at < table::WORDS {
-        s.words[at] = x;
+        s.arrays.table.words[at] = x;
     }
     s
 }
 
 fn link(mut s: State, at: usize, x: u8) -> State {
     if at < lines::CELLS {
-        s.lines[at] = x;
+        s.arrays.lines[at] = x;
     }
     s
 }
 
 fn running(mut s: State, p: Place) -> State {
-    s.running = p;
+    s.desk.running = p;
     s
 }
 
 fn one_more(mut s: State) -> State {
-    s.filled = 127;
+    s.desk.filled = 127;
     s
 }
 
 fn no_number(mut s: State) -> State {
-    s.last = Number(254);
+    s.desk.last = Number(254);
     s
 }
 
@@ -229,8 +229,8 @@ fn events(rt: &impl Print, s: State) -> io::Result<bool> {
 }
 
 fn event(rt: &impl Print, s: State, r: Reply) -> io::Result<bool> {
-    let none = halts(r.choice) && r.number.0 == rules::NOBODY;
-    told(rt, r.code, none && same(s, r.state))
+    let none = r.choice == Choice::Halt && r.number.0 == rules::NOBODY;
+    told(rt, r.code, none && s == r.state)
 }
 
 // The buffer would hold any image.
@@ -247,17 +247,17 @@ fn recorded(rt: &impl Print, s: State) -> io::Result<bool> {
     let mut log = before;
     print!(rt; ", record")?;
     let r = logging::record(s, &mut log, START, Event::Tick);
-    let none = halts(r.choice) && r.number.0 == rules::NOBODY && r.position == START;
-    told(rt, r.code, none && log == before && same(s, r.state))
+    let none = r.choice == Choice::Halt && r.number.0 == rules::NOBODY && r.position == START;
+    told(rt, r.code, none && log == before && s == r.state)
 }
 
 // The log is that of a create and a tick.
 fn replayed(rt: &impl Print, s: State) -> io::Result<bool> {
     let log = [1u8, 8];
     let r = logging::replay(s, &log);
-    let none = halts(r.choice) && r.records == 0 && r.bytes == 0;
+    let none = r.choice == Choice::Halt && r.records == 0 && r.bytes == 0;
     print!(rt; ", replay")?;
-    told(rt, r.code, none && same(s, r.state))
+    told(rt, r.code, none && s == r.state)
 }
 
 // The code of an operation, and whether it refused: with 14, and in all else as it is to. One that did not is marked.
@@ -270,14 +270,3 @@ fn told(rt: &impl Print, code: u8, quiet: bool) -> io::Result<bool> {
     Ok(false)
 }
 
-// ---- what is compared
-
-fn halts(choice: Choice) -> bool {
-    matches!(choice, Choice::Halt)
-}
-
-// Are two states the same, to the byte?
-fn same(s: State, t: State) -> bool {
-    let desk = s.filled == t.filled && s.last.0 == t.last.0 && s.running.0 == t.running.0;
-    desk && s.blocks == t.blocks && s.lines == t.lines && s.words == t.words
-}

@@ -29,10 +29,9 @@ pub fn interrupt(a: &mut Arrays, d: Desk, s: Pending, status: u32) -> Result<Don
     requires { StandsIn d a.old }
     ensures { DidIn d a.old (Interrupt s status) result a.new }
 {
-    let i = pending::first(s);
-    if i.0 == rules::NO_DEVICE {
+    let Some(i) = pending::first(s) else {
         return Ok(Done::at(d));
-    }
+    };
     ring(a, table::DEVICE_LINES + i.0, status);
     Ok(Done::at(d))
 }

@@ -220,9 +220,6 @@ impl State {
     pub fn interrupt(self, pending: Pending, status: u32) -> Reply
         ensures { Answers self (Interrupt pending status) result }
     {
-        self.step(Event::Interrupt {
-            pending,
-            status,
-        })
+        self.step(Event::Interrupt { pending, status })
     }
 }

@@ -28,6 +28,12 @@ no_device_is x e = grind arith
 device_is : (x : ℕ) {i : Device} → device_known x ≡ Some i → (i.0 ≡ x) × (x ≡ none → ⊥)
 device_is x e = grind arith
 
+pub device_at : {x i : ℕ} → x ≡ i → (i ≡ none → ⊥) → Some (record { 0 = i }) ≡ device_known x
+device_at e n = grind arith
+
+pub device_not : {x : ℕ} → x ≡ none → None ≡ device_known x
+device_not e = grind arith
+
 module _ {o : Option Place} {x : ℕ} (e : o ≡ place_known x) where
   pub no_place : o ≡ None → x ≡ none
   no_place f = no_place_is x (sym e ∙ f)

@@ -52,7 +52,7 @@ fn wait_at(s: State, p: Place) -> Option<Wait>
         standing: t.standing,
         number: t.number.0,
         partner: t.partner.0,
-        next: s.lines[usize::from(p.0)],
+        next: s.arrays.lines[usize::from(p.0)],
         word: t.word,
     })
 }

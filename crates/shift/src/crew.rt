@@ -79,7 +79,7 @@ fn acts(s: State, n: Number, dice: u32) -> Event {
     if n.0 == RADIO {
         return radio(s, dice);
     }
-    let t = s.thread(s.running);
+    let t = s.thread(s.desk.running);
     if display(t) {
         return Event::WaitClock;
     }

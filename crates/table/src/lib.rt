@@ -52,21 +52,21 @@ pub const DEVICE_LINES: u8 = 2;
 pub const INBOX_LINES: u8 = lines::QUEUES as u8;
 
 // The bytes and the words of all threads.
-#[derive(Clone, Copy)]
+#[derive(Clone, Copy, PartialEq, Eq)]
 pub struct Table {
     pub blocks: Blocks,
     pub words: Words,
 }
 
 // What an event is lent and changes in place: the thread table, and the lines.
-#[derive(Clone, Copy)]
+#[derive(Clone, Copy, PartialEq, Eq)]
 pub struct Arrays {
     pub table: Table,
     pub lines: Links,
 }
 
 // The set of filled places, the last number given, and the running place.
-#[derive(Clone, Copy)]
+#[derive(Clone, Copy, PartialEq, Eq)]
 pub struct Desk {
     pub filled: u64,
     pub last: Number,
@@ -74,7 +74,7 @@ pub struct Desk {
 }
 
 // The answer to a thread's last finished call.
-#[derive(Clone, Copy)]
+#[derive(Clone, Copy, PartialEq, Eq)]
 pub struct Answer {
     pub code: u8,
     pub who: Number,
@@ -82,7 +82,7 @@ pub struct Answer {
 }
 
 // What a place holds.
-#[derive(Clone, Copy)]
+#[derive(Clone, Copy, PartialEq, Eq)]
 pub struct Thread {
     pub number: Number,
     pub standing: u8,

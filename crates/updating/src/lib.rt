@@ -6,55 +6,52 @@ ghost use Rattle.std.specs.Prelude.{false, [], ◌≡◌, ◌<◌};
 ghost use Rattle.rules.specs.Model.{places};
 ghost use Rattle.rules.specs.Rules.{deserted, updated};
 ghost use Rattle.table.specs.Cells.{model_of};
-ghost use Rattle.verbs.specs.Steps.{Steps};
-ghost use Rattle.life.specs.LetGo.{SoundOn, let_from};
+ghost use Rattle.verbs.specs.Steps.{StepsIn};
+ghost use Rattle.life.specs.LetGo.{SoundIn, let_from};
 ghost use Rattle.nucleus.specs.View.{view, ConsistsBy, Shows};
 ghost use Rattle.updating.specs.Deserted.{deserted_at, wakes_at};
 ghost use Rattle.updating.specs.Updates.{Updates};
 
-use lines::Links;
 use loading::Loaded;
 use nucleus::State;
 use rules::{Place, codes};
-use table::{Blocks, Words};
+use table::{Arrays, Table};
 use verbs::address::find;
 
 // Does the thread at p receive from a number that nobody has?
-fn is_deserted(b: &Blocks, p: Place) -> bool
+fn is_deserted(t: &Table, p: Place) -> bool
     requires { p.0 < places }
-    ensures { result ≡ deserted_at b.now p.0 }
+    ensures { result ≡ deserted_at t.now.blocks p.0 }
 {
-    if table::standing_of(b, p) != rules::RECEIVING {
+    if t.standing_of(p) != rules::RECEIVING {
         return false;
     }
-    let n = table::partner_of(b, p);
+    let n = t.partner_of(p);
     if n.0 == rules::NOBODY {
         return false;
     }
-    find(b, n).0 == lines::NONE
+    find(t, n).is_none()
 }
 
 // The thread at p is told that whom it listens for is dead, if it is so. Nothing changes if it is not.
-fn wake_deserted(b: &mut Blocks, w: &mut Words, l: &mut Links, p: Place)
-    requires { SoundOn b.old w.old l.old × (p.0 < places) }
-    ensures { Steps b.old w.old l.old b.new w.new l.new (wakes_at p.0) }
+fn wake_deserted(a: &mut Arrays, p: Place)
+    requires { SoundIn a.old × (p.0 < places) }
+    ensures { StepsIn a.old a.new (wakes_at p.0) }
 {
-    if !is_deserted(b, p) {
+    if !is_deserted(&a.table, p) {
         return;
     }
-    let n = table::partner_of(b, p);
-    verbs::wake(b, w, l, p, codes::ENDED, n, 0);
+    let n = a.table.partner_of(p);
+    verbs::wake(a, p, codes::ENDED, n, 0);
 }
 
 // All who listen for the dead are told, by rising place.
-fn wake_all(b: &mut Blocks, w: &mut Words, l: &mut Links)
-    requires { SoundOn b.old w.old l.old }
-    ensures { Steps b.old w.old l.old b.new w.new l.new (let_from (deserted (model_of 0 0 b.old w.old [])) 0 places) }
+fn wake_all(a: &mut Arrays)
+    requires { SoundIn a.old }
+    ensures { StepsIn a.old a.new (let_from (deserted (model_of 0 0 a.old.table.blocks a.old.table.words [])) 0 places) }
 {
-    let mut p: u8 = 0;
-    while p < lines::PLACES as u8 {
-        wake_deserted(b, w, l, Place(p));
-        p += 1;
+    for p in 0..lines::PLACES as u8 {
+        wake_deserted(a, Place(p));
     }
 }
 
@@ -63,13 +60,10 @@ fn carry_over(s: State) -> State
     requires { ConsistsBy false s }
     ensures { Shows result (updated (view s)) }
 {
-    let d = s.desk();
-    let mut b = s.blocks;
-    let mut w = s.words;
-    let mut l = s.lines;
-    wake_all(&mut b, &mut w, &mut l);
-    let e = verbs::dispatch(&mut b, &mut w, &mut l, d);
-    State::lay(e, b, w, l)
+    let mut arrays = s.arrays;
+    wake_all(&mut arrays);
+    let desk = verbs::dispatch(&mut arrays, s.desk);
+    State { desk, arrays }
 }
 
 // The state of which the bytes are the image by the old rules, carried over. Any bytes may come, and they are refused as load refuses them.
@@ -80,10 +74,8 @@ pub fn update(image: &[u8]) -> Loaded
     if from.code != codes::DONE {
         return from;
     }
-    let s = from.state;
-    let t = carry_over(s);
     Loaded {
         code: codes::DONE,
-        state: t,
+        state: carry_over(from.state),
     }
 }

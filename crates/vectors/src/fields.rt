@@ -10,10 +10,11 @@ pub fn split(bytes: &[u8]) -> Option<(&[u8], &[u8])>
     rest.split_at_checked(usize::from(u16::from_le_bytes(*size)))
 }
 
+// The first field of a vector. Of one that is not all there, what there is of it.
 pub fn first(vector: &[u8]) -> &[u8] {
     match split(vector) {
         Some((field, _)) => field,
-        None => &[],
+        None => vector.get(2..).unwrap_or(&[]),
     }
 }
 

@@ -1,17 +1,15 @@
 -- `consistent_by` meets its contract: what its parts tell, put together.
-use Rattle.std.proofs.Common.{arith}
+use borrow.Author.Rules.{rules}
 use Rattle.lists.specs.Tells.{tells_no}
 use mathlib.Core.Path.{sym, ◌∙◌}
 use Rattle.audit.specs.Whole.{not_members, answer}
 use Rattle.audit.proofs.consistent_by.Goals as goal
 
 pub returns-then-not-members : goal.returns-then-not-members
-returns-then-not-members c =
-    let k = c.survey-seats.ensures.yes (grind arith) in
-    tells_no (not_members k (c.members.ensures.no c.if-not-members.true))
+returns-then-not-members c = tells_no (not_members (rw c.in-Some.is at c.survey.ensures) (c.members.ensures.no c.if-not-members.true))
 
 pub returns : goal.returns
 returns c =
-    let a = c.args in
-    answer _ c.told-b c.told-w (c.survey-seats.ensures.yes (grind arith)) (c.members.ensures.yes c.if-not-members.false)
-    (sym (c.seated.ensures a.w.now) ∙ c.if-not-seated.false) c.fits-w c.filling.ensures
+    let a = c.args.a.now in
+    answer _ (search rules) (search rules) (rw c.in-Some.is at c.survey.ensures) (c.members.ensures.yes c.if-not-members.false)
+    (sym (c.seated.ensures a.table.words) ∙ c.if-not-seated.false) (search rules) c.filling.ensures

@@ -30,7 +30,7 @@ loop-r-smaller c =
 
 pub loop-r-preserved : goal.loop-r-preserved
 loop-r-preserved c =
-    walk_on c.loop-r.invariant c.requires.1 c.loop-r-test.true c.if-stamp-ne0.false (search rules)
+    rw c.parent_of.ensures (walk_on c.loop-r.invariant c.requires.1 c.loop-r-test.true c.if-stamp-ne0.false (search rules))
 
 pub returns : goal.returns
 returns c =

@@ -8,4 +8,4 @@ use Rattle.audit.specs.Tests.{place_test}
 use Rattle.audit.proofs.every.Given as goal
 
 abbrev pub invariant-loop-p : goal.invariant-loop-p
-invariant-loop-p l = (i : ℕ) → i < l.p → place_test l.strict (model_of 0 l.running.0 l.b l.w []) l.at l.who i ≡ true
+invariant-loop-p l = (i : ℕ) → i < l.p → place_test l.strict (model_of 0 l.running.0 l.t.blocks l.t.words []) l.at l.who i ≡ true

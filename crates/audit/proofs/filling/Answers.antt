@@ -9,21 +9,21 @@ use Rattle.filled.specs.Filled.{upto}
 use Rattle.filled.specs.Upto.{upto_none, upto_all, upto_in, upto_out}
 use Rattle.table.specs.Cells.{stands_at}
 use Rattle.audit.proofs.filling.Goals as goal
-use Rattle.audit.proofs.filling.Goals.{else-b-p-ne-EMPTY, then-b-p-ne-EMPTY}
+use Rattle.audit.proofs.filling.Goals.{else-standing_of-ne-EMPTY, then-standing_of-ne-EMPTY}
 
 pub loop-p-init : goal.loop-p-init
-loop-p-init c = sym (upto_none places (stands_at c.args.b.now))
+loop-p-init c = sym (upto_none places (stands_at c.args.t.now.blocks))
 
 pub loop-p-preserved : goal.loop-p-preserved
 loop-p-preserved c =
     let w = c.loop-p in
     let h = c.loop-p-test.true in
-    rw add-one (elim c.if-b-p-ne-EMPTY.branch [
-      | then-b-p-ne-EMPTY v ↦ v.x-is ∙ v.with-x.ensures (upto w.p (stands_at c.args.b.now)) w.invariant ∙ upto_in places w.p (stands_at c.args.b.now) (ap not (ne_eqb _ _ v.if-b-p-ne-EMPTY.true))
-      | else-b-p-ne-EMPTY v ↦ v.x-is ∙ w.invariant ∙ upto_out places w.p (stands_at c.args.b.now) (ap not (eq-eqb _ _ v.if-b-p-ne-EMPTY.false))
+    rw add-one (elim c.if-standing_of-ne-EMPTY.branch [
+      | then-standing_of-ne-EMPTY v ↦ v.x-is ∙ v.with-x.ensures (upto w.p (stands_at c.args.t.now.blocks)) w.invariant ∙ upto_in places w.p (stands_at c.args.t.now.blocks) (ap not (ne_eqb _ _ (λ z. v.if-standing_of-ne-EMPTY.true (c.standing_of.ensures ∙ z))))
+      | else-standing_of-ne-EMPTY v ↦ v.x-is ∙ w.invariant ∙ upto_out places w.p (stands_at c.args.t.now.blocks) (ap not (eq-eqb _ _ (sym c.standing_of.ensures ∙ v.if-standing_of-ne-EMPTY.false)))
     ])
 
 pub returns : goal.returns
 returns c =
     let e : c.loop-p.p ≡ places = omega arith in
-    c.loop-p.invariant ∙ rw e (upto_all places (stands_at c.args.b.now))
+    c.loop-p.invariant ∙ rw e (upto_all places (stands_at c.args.t.now.blocks))

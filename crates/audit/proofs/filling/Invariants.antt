@@ -6,4 +6,4 @@ use Rattle.table.specs.Cells.{stands_at}
 use Rattle.audit.proofs.filling.Given as goal
 
 abbrev pub invariant-loop-p : goal.invariant-loop-p
-invariant-loop-p l = l.x ≡ word_of places (upto l.p (stands_at l.b))
+invariant-loop-p l = l.x ≡ word_of places (upto l.p (stands_at l.t.blocks))

@@ -3,4 +3,4 @@ use Rattle.audit.specs.Loops.{Indexed}
 use Rattle.audit.proofs.index.Given as goal
 
 abbrev pub invariant-loop-p : goal.invariant-loop-p
-invariant-loop-p l = Indexed l.b l.who l.p
+invariant-loop-p l = Indexed l.t.blocks l.who l.p

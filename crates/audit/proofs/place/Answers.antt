@@ -8,10 +8,10 @@ use Rattle.audit.proofs.place.Goals as goal
 
 pub returns : goal.returns
 returns c =
-    let t = c.read-t in
-    seat_test_lem c.args.strict (model_of 0 c.args.running.0 c.args.b.now c.args.w.now []) c.args.at.now c.args.who.now c.args.p.0 _ _
+    let t = c.read-held in
+    seat_test_lem c.args.strict (model_of 0 c.args.running.0 c.args.t.now.blocks c.args.t.now.words []) c.args.at.now c.args.who.now c.args.p.0 _ _
     (as_thread t.result) _ _ _ _ _
-    (t.ensures ∙ sym (thread_at 0 c.args.running.0 c.args.b.now c.args.w.now [] c.args.p.0 c.requires))
+    (t.ensures ∙ sym (thread_at 0 c.args.running.0 c.args.t.now.blocks c.args.t.now.words [] c.args.p.0 c.requires))
     refl
-    c.fits.ensures c.runs_alone.ensures c.home.ensures (c.unheard.ensures c.args.w.now) c.names_live.ensures
+    c.fits.ensures c.runs_alone.ensures c.home.ensures (c.unheard.ensures c.args.t.now.words) c.names_live.ensures
     c.parented.ensures

@@ -3,4 +3,4 @@ use Rattle.audit.specs.Rings.{Stamped}
 use Rattle.audit.proofs.ringless.Given as goal
 
 abbrev pub invariant-loop-p : goal.invariant-loop-p
-invariant-loop-p l = Stamped l.b l.who l.stamps l.p
+invariant-loop-p l = Stamped l.t.blocks l.who l.stamps l.p

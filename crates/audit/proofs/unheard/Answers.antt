@@ -10,10 +10,10 @@ use Rattle.audit.proofs.unheard.Goals as goal
 pub returns-then-r-ge-LIMIT : goal.returns-then-r-ge-LIMIT
 returns-then-r-ge-LIMIT c =
     λ w.
-    rw (eq-eqb c.args.t.standing 3 c.if-t-ne-SENDING.false, thread_past 0 0 c.args.b.now w [] c.args.r.0 (omega arith))
+    rw (eq-eqb c.args.one.standing 3 c.if-one-ne-SENDING.false, thread_past 0 0 _ w [] c.args.r.0 (omega arith))
 
 pub returns : goal.returns
 returns c =
     λ w.
-    rw (eq-eqb c.args.t.standing 3 c.if-t-ne-SENDING.false, thread_at 0 0 c.args.b.now w [] c.args.r.0 (omega arith))
+    rw (eq-eqb c.args.one.standing 3 c.if-one-ne-SENDING.false, thread_at 0 0 _ w [] c.args.r.0 (omega arith))
     (ap not c.listens.ensures)

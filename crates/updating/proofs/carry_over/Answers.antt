@@ -5,9 +5,8 @@ use Rattle.updating.proofs.carry_over.Goals as goal
 pub wake_all-requires : goal.wake_all-requires
 wake_all-requires c = starts c.requires
 
-pub dispatch-e-requires : goal.dispatch-e-requires
-dispatch-e-requires c = c.wake_all.ensures.whole
+pub dispatch-desk-requires : goal.dispatch-desk-requires
+dispatch-desk-requires c = c.wake_all.ensures.whole
 
 pub returns : goal.returns
-returns c =
-    carries_over c.requires c.desk-d.ensures c.wake_all.ensures c.dispatch-e.ensures c.lay.ensures
+returns c = carries_over c.requires c.wake_all.ensures c.dispatch-desk.ensures

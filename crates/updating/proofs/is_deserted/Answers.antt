@@ -5,13 +5,13 @@ use Rattle.updating.proofs.is_deserted.Goals as goal
 
 pub returns-then-standing_of-ne-RECEIVING : goal.returns-then-standing_of-ne-RECEIVING
 returns-then-standing_of-ne-RECEIVING c =
-    not_receiving c.args.b.now c.args.p.0 c.standing_of.ensures c.if-standing_of-ne-RECEIVING.true
+    not_receiving c.args.t.now.blocks c.args.p.0 c.standing_of.ensures c.if-standing_of-ne-RECEIVING.true
 
 pub returns-then-n : goal.returns-then-n
 returns-then-n c =
-    from_any c.args.b.now c.args.p.0 c.standing_of.ensures (omega (arith, c.if-standing_of-ne-RECEIVING.false)) c.partner_of-n.ensures c.if-n.true
+    from_any c.args.t.now.blocks c.args.p.0 c.standing_of.ensures (omega (arith, c.if-standing_of-ne-RECEIVING.false)) c.partner_of-n.ensures c.if-n.true
 
 pub returns : goal.returns
 returns c =
-    from_named c.args.b.now c.args.p.0 c.standing_of.ensures (omega (arith, c.if-standing_of-ne-RECEIVING.false)) c.partner_of-n.ensures
+    from_named c.args.t.now.blocks c.args.p.0 c.standing_of.ensures (omega (arith, c.if-standing_of-ne-RECEIVING.false)) c.partner_of-n.ensures
     c.if-n.false c.find.ensures

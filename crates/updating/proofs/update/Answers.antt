@@ -6,8 +6,8 @@ use Rattle.updating.proofs.update.Goals as goal
 pub returns-then-from-ne-DONE : goal.returns-then-from-ne-DONE
 returns-then-from-ne-DONE c = update_refused c.load_old-from.ensures c.if-from-ne-DONE.true
 
-pub carry_over-t-requires : goal.carry_over-t-requires
-carry_over-t-requires c = (accepted_of c.load_old-from.ensures c.if-from-ne-DONE.false).consists
+pub carry_over-requires : goal.carry_over-requires
+carry_over-requires c = (accepted_of c.load_old-from.ensures c.if-from-ne-DONE.false).consists
 
 pub returns : goal.returns
-returns c = update_done c.load_old-from.ensures c.if-from-ne-DONE.false c.carry_over-t.ensures
+returns c = update_done c.load_old-from.ensures c.if-from-ne-DONE.false c.carry_over.ensures

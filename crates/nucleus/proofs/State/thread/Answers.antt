@@ -12,11 +12,11 @@ returns-then-p-ge-PLACES c =
     let a = c.args in
     let s = a.self in
     held (c.consistent.ensures.yes c.if-not-consistent.false)
-    (c.vacancy-then-p-ge-PLACES.ensures ∙ sym (thread_past s.last.0 s.running.0 s.blocks s.words s.lines a.p.0 c.if-p-ge-PLACES.true))
+    (c.vacancy-then-p-ge-PLACES.ensures ∙ sym (thread_past s.desk.last.0 s.desk.running.0 s.arrays.table.blocks s.arrays.table.words s.arrays.lines a.p.0 c.if-p-ge-PLACES.true))
 
 pub returns : goal.returns
 returns c =
     let a = c.args in
     let s = a.self in
     held (c.consistent.ensures.yes c.if-not-consistent.false)
-    (c.read.ensures ∙ sym (thread_at s.last.0 s.running.0 s.blocks s.words s.lines a.p.0 c.if-p-ge-PLACES.false))
+    (c.read.ensures ∙ sym (thread_at s.desk.last.0 s.desk.running.0 s.arrays.table.blocks s.arrays.table.words s.arrays.lines a.p.0 c.if-p-ge-PLACES.false))
