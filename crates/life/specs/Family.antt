@@ -152,7 +152,6 @@ step k p r m h = let e : places - r ≡ suc (places - suc r) = omega arith in rw
 
 -- the loop has come to r
 pub record Sweeping (depth p : ℕ) (d : Desk) (b w l : List ℕ) (d' : Desk) (b' w' l' : List ℕ) (r : ℕ) : Type 0 where
-  pub upto : r ≤ places
   pub tallied : Tallied d' b' w' l'
   pub may : MayEnd depth p (shown d' b' w' l')
   pub goes : children_from (depth - 1) p 0 places (shown d b w l) ≡ children_from (depth - 1) p r (places - r) (shown d' b' w' l')
@@ -168,12 +167,11 @@ pub one_deeper : {depth p : ℕ} {m : Model} → MayEnd depth p m → MayEnd (su
 one_deeper {depth} {p} {m} A = let i = deeper A in subst (λ (k : ℕ). MayEnd k p m) (let e : depth ≡ suc (depth - 1) = omega arith in e) A
 
 pub sweep_start : {depth p : ℕ} {d : Desk} {b w l : List ℕ} → Tallied d b w l → MayEnd depth p (shown d b w l) → Sweeping depth p d b w l d b w l 0
-sweep_start T A = record { upto = omega arith; tallied = T; may = A; goes = refl }
+sweep_start T A = record { tallied = T; may = A; goes = refl }
 
 module _ {depth p : ℕ} {d₀ : Desk} {b₀ w₀ l₀ : List ℕ} {d : Desk} {b w l : List ℕ} {r : ℕ} (t : Sweeping depth p d₀ b₀ w₀ l₀ d b w l r) where
   pub sweep_again : r < places → {c : Desk} {b' w' l' : List ℕ} → Empties d b w l c b' w' l' (if_child (depth - 1) p r) → Sweeping depth p d₀ b₀ w₀ l₀ c b' w' l' (r + 1)
   sweep_again h {c} {b'} {w'} {l'} s = record {
-    upto = omega arith;
     tallied = s.tallied;
     may = subst (MayEnd depth p) (sym s.seen) on;
     goes = t.goes ∙ step (depth - 1) p r m h ∙ ap (children_from (depth - 1) p (r + 1) (places - (r + 1))) (sym s.seen);

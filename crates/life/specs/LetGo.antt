@@ -82,7 +82,6 @@ let_all g m = refl
 
 -- the loop has come to p
 pub record Letting (g : Group) (b w l b' w' l' : List ℕ) (p : ℕ) : Type 0 where
-  pub upto : p ≤ places
   pub now : SoundOn b' w' l'
   pub kept : (y x : ℕ) → Sound (model_of y x b w l) → Kept (model_of y x b w l) (model_of y x b' w' l')
   pub goes : (y x : ℕ) → let_from g 0 places (model_of y x b w l) ≡ let_from g p (places - p) (model_of y x b' w' l')
@@ -91,14 +90,13 @@ abbrev pub LettingIn : Group → Arrays → Arrays → ℕ → Type 0
 LettingIn g a a' p = Letting g a.table.blocks a.table.words a.lines a'.table.blocks a'.table.words a'.lines p
 
 pub let_start : {g : Group} {b w l : List ℕ} → SoundOn b w l → Letting g b w l b w l 0
-let_start {b = b} {w} {l} k = record { upto = omega arith; now = k; kept = λ y x S. (still (model_of y x b w l) S).kept; goes = λ y x. refl }
+let_start {b = b} {w} {l} k = record { now = k; kept = λ y x S. (still (model_of y x b w l) S).kept; goes = λ y x. refl }
 
 module _ {g : Group} {b₀ w₀ l₀ b w l : List ℕ} {p : ℕ} (t : Letting g b₀ w₀ l₀ b w l p) where
   pub let_again : Fair g → p < places → {b' w' l' : List ℕ} → Steps b w l b' w' l' (let_step g p) → Letting g b₀ w₀ l₀ b' w' l' (p + 1)
   let_again F h {b'} {w'} {l'} s =
       let k = t.now in
       record {
-        upto = omega arith;
         now = record {
           last = k.last;
           running = k.running;

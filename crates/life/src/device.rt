@@ -30,9 +30,8 @@ pub fn interrupt(a: &mut Arrays, d: Desk, s: Pending, status: u32) -> Result<Don
     ensures { DidIn d a.old (Interrupt s status) result a.new }
 {
     let i = pending::first(s);
-    if i.0 == rules::NO_DEVICE {
-        return Ok(Done::at(d));
+    if i.0 != rules::NO_DEVICE {
+        ring(a, table::DEVICE_LINES + i.0, status);
     }
-    ring(a, table::DEVICE_LINES + i.0, status);
     Ok(Done::at(d))
 }
