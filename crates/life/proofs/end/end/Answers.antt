@@ -14,9 +14,9 @@ returns-in_default c =
 pub end_down-requires : goal.end_down-requires
 end_down-requires c =
     let z = place_some c.find.ensures c.in-Some.is in
-    (end_tallied c.requires, end_may c.requires c.args.n c.if-n-gt-LAST_NUMBER.false z.0 (λ y. z.1 (sym z.0 ∙ y)) c.count.ensures)
+    (end_tallied c.requires, end_may c.requires c.args.n c.if-n-gt-LAST_NUMBER.false z.0 (λ y. z.1 (sym z.0 ∙ y)) c.count-depth.ensures)
 
 pub returns : goal.returns
 returns c =
     let z = place_some c.find.ensures c.in-Some.is in
-    rw c.at.ensures (end_0 c.requires c.args.n c.if-n-gt-LAST_NUMBER.false z.0 (λ y. z.1 (sym z.0 ∙ y)) c.count.ensures c.end_down.ensures refl)
+    rw c.at.ensures (end_0 c.requires c.args.n c.if-n-gt-LAST_NUMBER.false z.0 (λ y. z.1 (sym z.0 ∙ y)) c.count-depth.ensures c.end_down.ensures refl)
