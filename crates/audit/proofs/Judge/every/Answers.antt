@@ -3,7 +3,7 @@ use mathlib.Core.Path.{sym, ◌∙◌}
 use native.Mathlib.Omega.{arith}
 use Rattle.lists.specs.Tells.{tells_yes, tells_no}
 use borrow.Author.Count.{below_more}
-use Rattle.audit.proofs.every.Goals as goal
+use Rattle.audit.proofs.Judge.every.Goals as goal
 
 pub returns-then-not-place : goal.returns-then-not-place
 returns-then-not-place c = tells_no (c.loop-p.p, c.loop-p-test.true, sym c.place.ensures ∙ c.if-not-place.true)
