@@ -171,12 +171,7 @@ impl<'a> Judge<'a> {
     fn every(self, t: &Table) -> bool
         ensures { AllPass result (place_test self.entry.strict (model_of 0 self.entry.running.0 t.now.blocks t.now.words []) self.entry.at.now self.entry.who.now) }
     {
-        for p in 0..LIMIT {
-            if !self.place(t, Place(p)) {
-                return false;
-            }
-        }
-        true
+        (0..LIMIT).all(|p| self.place(t, Place(p)))
     }
 }
 
