@@ -48,10 +48,14 @@ module _ {l : List ℕ} (t : Tidy places line_count l) where
 
 -- the lines from the clock's up to q have none
 pub record NoneUpTo (l : List ℕ) (q : ℕ) : Type 0 where
+  pub from : clock ≤ q
+  pub upto : q ≤ queue_count
   pub empty : (r : ℕ) → clock ≤ r → r < q → front (line_of places l r) ≡ none
 
-pub none_more : {l : List ℕ} {q x : ℕ} → NoneUpTo l q → x ≡ front (line_of places l q) → x ≡ none → NoneUpTo l (q + 1)
-none_more {l} {q} k e z = record {
+pub none_more : {l : List ℕ} {q x : ℕ} → NoneUpTo l q → q < queue_count → x ≡ front (line_of places l q) → x ≡ none → NoneUpTo l (q + 1)
+none_more {l} {q} k h e z = record {
+  from = let a = k.from in omega arith;
+  upto = omega arith;
   empty = λ r a b. by_test (eqb r q) (λ t. rw (eqb-true r q t) (sym e ∙ z)) (λ t. let n = eqb-false r q t in k.empty r a (omega arith));
 }
 
