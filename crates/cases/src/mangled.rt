@@ -178,7 +178,7 @@ fn looked(rt: &impl Print, s: State) -> io::Result<()> {
         s.consistent() as u8,
         Chosen(s.choice()),
         s.live(),
-        s.empty_place().0
+        s.empty_place().map_or(lines::NONE, |p| p.0)
     )?;
     fields(rt, s.thread(Place(0)))
 }

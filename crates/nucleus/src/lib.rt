@@ -2,9 +2,9 @@
 // state that was tested, do.
 #![tactic(auto)]
 
-ghost use Rattle.std.specs.Prelude.{◌≡◌};
-ghost use Rattle.lists.specs.Lists.{none};
+ghost use Rattle.std.specs.Prelude.{◌≡◌, None};
 ghost use Rattle.lists.specs.Tells.{Tells};
+ghost use Rattle.rules.specs.Values.{place_known};
 ghost use Rattle.rules.specs.Model.{vacant, thread as thread_in, live as live_in};
 ghost use Rattle.rules.specs.Rules.{fresh as freshModel, choice as chosen, empty_place, outcome};
 ghost use Rattle.rules.specs.declared.Choice.{Choice};
@@ -92,18 +92,18 @@ impl State {
         filled::count(self.desk.filled)
     }
 
-    // The lowest empty place. None where all are filled, or the state is not consistent.
-    pub fn empty_place(self) -> Place
-        ensures { Looked self (result.0 ≡ empty_place (view self)) (result.0 ≡ none) }
+    // The lowest empty place, if there is one and the state is consistent.
+    pub fn empty_place(self) -> Option<Place>
+        ensures { Looked self (result ≡ place_known (empty_place (view self))) (result ≡ None) }
     {
         if !self.consistent() {
-            return Place(lines::NONE);
+            return None;
         }
         let p = filled::lowest(self.desk.filled);
         if p as usize >= lines::PLACES {
-            return Place(lines::NONE);
+            return None;
         }
-        Place(p)
+        Some(Place(p))
     }
 
     // What the place p holds. The clean value where it is no place or the state is not consistent.

@@ -22,6 +22,9 @@ none_place_is x e = grind arith
 pub place_at : {x i : ℕ} → x ≡ i → (i ≡ none → ⊥) → Some (record { 0 = i }) ≡ place_known x
 place_at e n = grind arith
 
+pub place_not : {x : ℕ} → x ≡ none → None ≡ place_known x
+place_not e = grind arith
+
 no_device_is : (x : ℕ) → device_known x ≡ None → x ≡ none
 no_device_is x e = grind arith
 
