@@ -1,12 +1,8 @@
 -- `State::empty_place` meets its contract: the lowest zero of the filled set.
-use mathlib.Core.Path.{refl}
 use Rattle.table.specs.Cells.{stands_at}
-use Rattle.nucleus.specs.View.{held, refused}
+use Rattle.nucleus.specs.View.{held}
 use Rattle.nucleus.specs.Looks.{lowest_some, lowest_full}
 use Rattle.nucleus.proofs.State.empty_place.Goals as goal
-
-pub returns-then-not-consistent : goal.returns-then-not-consistent
-returns-then-not-consistent c = refused (c.consistent.ensures.no c.if-not-consistent.true) refl
 
 pub returns-then-p-ge-PLACES : goal.returns-then-p-ge-PLACES
 returns-then-p-ge-PLACES c =
