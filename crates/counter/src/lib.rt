@@ -1,5 +1,4 @@
-// The counter of numbers (document 01, "The image and the log"): a struct of one field, lent and changed in place. The work is `successor`'s, the
-// plain form; what is lent is proved by hand, so it stays thin.
+// The counter of numbers (document 01, "The image and the log"): a struct of one field, lent and changed in place. What a step comes to is `successor`'s to say.
 #![tactic(auto)]
 
 ghost use Rattle.std.specs.Prelude.{◌≡◌};

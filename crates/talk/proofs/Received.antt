@@ -1,9 +1,7 @@
 -- Event 3, receive: the first match in the caller's inbox is taken, or the caller receives.
-use Rattle.std.specs.Prelude.{◌≡◌, refl, List, Result, Ok, Err, Bool, true, false, ◌&&◌, ℕ, ◌+◌, ◌≤◌, ◌<◌, eqb, get_or}
-use Rattle.std.proofs.Common.{sym, ap, subst, ◌∙◌, arith, eqb-true, eq-eqb, ne_eqb}
-use Rattle.std.proofs.lemmas.Bool.{eqb-false}
+use Rattle.std.specs.Prelude.{◌≡◌, refl, List, Result, Ok, Err, Bool, true, false, ◌&&◌, ℕ, ◌+◌, ◌≤◌, ◌<◌, get_or}
+use Rattle.std.proofs.Common.{sym, ap, subst, ◌∙◌, arith, eq-eqb, ne_eqb}
 use Rattle.lists.specs.Lists.{none, count, first_of}
-use Rattle.lists.specs.Laws.{by_test}
 use Rattle.lists.specs.Counts.{some_among}
 use Rattle.lists.specs.Search.{first_ext_in, found_in}
 use Rattle.lines.specs.Lines.{line_of}

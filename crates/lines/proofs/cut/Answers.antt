@@ -1,23 +1,13 @@
 -- `cut` meets its contract. The last of the line is what it was, or, where the last goes out, the cell before it, or none. Assumes nothing.
 use mathlib.Core.Path.{◌∙◌}
 use native.Mathlib.Omega.{arith}
-use Rattle.lines.specs.Cut.{cut_place, cut_in, tail_kept, tail_low, tail_high, cut_turned}
+use Rattle.lines.specs.Cut.{cut_in, tail_kept, tail_low, tail_high, cut_turned}
 use Rattle.lines.proofs.cut.Goals as goal
 use Rattle.lines.proofs.cut.Goals.{else-next+else-at-lt-PLACES, else-next+then-at-lt-PLACES, then-next}
-
-pub bounds-l-p : goal.bounds-l-p
-bounds-l-p c =
-    let b = cut_place c.requires.0 c.requires.1 (omega arith) c.requires.2 in
-    omega arith
 
 pub bounds-l-at : goal.bounds-l-at
 bounds-l-at c =
     let b = cut_in c.requires.0 c.requires.1 (omega arith) c.requires.2 in
-    omega arith
-
-pub bounds-l-p-2 : goal.bounds-l-p-2
-bounds-l-p-2 c =
-    let b = cut_place c.requires.0 c.requires.1 (omega arith) c.requires.2 in
     omega arith
 
 pub returns : goal.returns

@@ -1,5 +1,4 @@
 -- `hang` meets its contract: in a tidy array the cell that is written is that which `join` writes. Assumes nothing.
-use borrow.Author.Rules.{rules}
 use mathlib.Core.Path.{◌≡◌, ◌∙◌}
 use Prim.Native.Nat.{◌+◌}
 use native.Mathlib.Omega.{arith}
@@ -8,15 +7,6 @@ use Rattle.lines.specs.Lines.{last_cell, line_of}
 use Rattle.lines.specs.Join.{hang_own, hang_some, join_turned}
 use Rattle.lines.proofs.hang.Goals as goal
 use Rattle.lines.proofs.hang.Goals.{else-last-lt-PLACES, then-last-lt-PLACES}
-
-pub returns-then-p-ge-PLACES : goal.returns-then-p-ge-PLACES
-returns-then-p-ge-PLACES c = λ k h f. absurd (omega arith)
-
-pub bounds-l-at : goal.bounds-l-at
-bounds-l-at c = elim c.if-last-lt-PLACES.branch [
-  | then-last-lt-PLACES w ↦ search rules
-  | else-last-lt-PLACES w ↦ search rules
-]
 
 pub returns : goal.returns
 returns c = λ k g f.

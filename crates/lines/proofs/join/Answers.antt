@@ -3,7 +3,7 @@ use mathlib.Core.Path.{◌≡◌, sym, ◌∙◌}
 use Prim.Native.Nat.{◌+◌}
 use native.Mathlib.Omega.{arith}
 use Rattle.lines.specs.Lines.{last_cell, line_of}
-use Rattle.lines.specs.Join.{join_own, join_some, join_in, join_turned}
+use Rattle.lines.specs.Join.{join_own, join_some, join_turned}
 use Rattle.lists.specs.Known.{known_none, known_some}
 use Rattle.lists.specs.Sizes.{places}
 use Rattle.lines.proofs.join.Goals as goal

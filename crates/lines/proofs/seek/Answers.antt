@@ -1,10 +1,7 @@
 -- `seek` meets its contract. The loop's invariant: the cell stands in the line, and p was not met. The measure is what is left of the line. Assumes nothing.
 use native.Mathlib.Omega.{arith}
-use Rattle.lines.specs.Seek.{walked_start, walked_in, walked_hit, walked_on, walked_end, walked_less}
+use Rattle.lines.specs.Seek.{walked_in, walked_hit, walked_on, walked_end, walked_less}
 use Rattle.lines.proofs.seek.Goals as goal
-
-pub loop-at-init : goal.loop-at-init
-loop-at-init c = walked_start c.requires.0 c.requires.1 (omega arith) c.args.p
 
 pub bounds-l-at : goal.bounds-l-at
 bounds-l-at c =

@@ -1,11 +1,7 @@
 -- `survey` meets its contract. The loop's invariant: the first q lines are good, and the marks theirs. Assumes nothing.
-use Prim.Native.Nat.{◌≤◌, ◌-◌}
 use Rattle.lines.specs.Steps.{DoneUpTo}
 use Rattle.lists.specs.Sizes.{places, line_count}
 use Rattle.lines.proofs.survey.Given as goal
 
 abbrev pub invariant-loop-q : goal.invariant-loop-q
-invariant-loop-q l = (l.q ≤ line_count) × DoneUpTo places line_count l.l l.at l.q
-
-abbrev pub decreases-loop-q : goal.decreases-loop-q
-decreases-loop-q l = line_count - l.q
+invariant-loop-q l = DoneUpTo places line_count l.l l.at l.q

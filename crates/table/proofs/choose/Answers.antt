@@ -2,17 +2,10 @@
 use mathlib.Core.Path.{◌≡◌, sym, ap, ◌∙◌}
 use lib.ListN.{get_or}
 use Prim.Native.Nat.{ℕ}
-use native.Mathlib.Omega.{arith}
 use Rattle.rules.specs.Known.{place_none, place_some}
 use Rattle.table.specs.Cells.{cell, stands_at}
 use Rattle.table.specs.Choose.{choose_run, choose_halt, choose_stuck, choose_wait}
 use Rattle.table.proofs.choose.Goals as goal
-
-pub number_of-requires : goal.number_of-requires
-number_of-requires c =
-    let z = place_some c.runner.ensures c.in-Some.is in
-    let h = c.requires.seat z.1 in
-    omega arith
 
 pub returns-in-Some : goal.returns-in-Some
 returns-in-Some c =
@@ -24,9 +17,6 @@ pub returns-then-count-eq0 : goal.returns-then-count-eq0
 returns-then-count-eq0 c =
     let b = c.args.a.now.table.blocks in
     λ w. choose_halt c.args.d b w c.args.a.now.lines (place_none c.runner.ensures c.in_default.is) c.count.result (c.count.ensures (stands_at b) c.requires.filled) c.if-count-eq0.true
-
-pub waits-requires : goal.waits-requires
-waits-requires c = c.requires.lines
 
 pub returns-then-waits : goal.returns-then-waits
 returns-then-waits c =

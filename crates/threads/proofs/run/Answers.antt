@@ -4,9 +4,6 @@ use Rattle.verbs.specs.Address.{refused_not}
 use Rattle.threads.specs.Ran.{ran_not, ran}
 use Rattle.threads.proofs.run.Goals as goal
 
-pub dispatch-requires : goal.dispatch-requires
-dispatch-requires c = c.in-Ok.ensures.whole
-
 pub returns-in-Ok : goal.returns-in-Ok
 returns-in-Ok c = ran c.requires _ c.in-Ok.ensures refl c.dispatch.ensures
 

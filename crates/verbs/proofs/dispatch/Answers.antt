@@ -1,23 +1,14 @@
 -- `dispatch` meets its contract: somebody runs, nobody is ready, or the front of ready runs.
 use mathlib.Core.Path.{refl, sym, ◌∙◌}
-use native.Mathlib.Omega.{arith}
-use Rattle.rules.specs.Known.{place_yes, place_no}
+use Rattle.rules.specs.Known.{place_no}
 use Rattle.lines.specs.Callers.{popped_none, popped_some}
-use Rattle.verbs.specs.Verbs.{somebody, dispatch_busy, dispatch_none, dispatch_some}
+use Rattle.verbs.specs.Verbs.{dispatch_none, dispatch_some}
 use Rattle.verbs.proofs.dispatch.Goals as goal
-
-pub returns-then-is_some : goal.returns-then-is_some
-returns-then-is_some c = dispatch_busy c.requires _ (place_yes c.runner.ensures (sym c.is_some.ensures ∙ c.if-is_some.true))
 
 pub returns-in_default : goal.returns-in_default
 returns-in_default c =
     dispatch_none c.requires c.args.d (place_no c.runner.ensures (sym c.is_some.ensures ∙ c.if-is_some.false))
     (popped_none c.pop.ensures.who c.pop.ensures.line c.in_default.is) refl
-
-pub stand-requires : goal.stand-requires
-stand-requires c =
-    let z = popped_some c.pop.ensures.who c.pop.ensures.line c.in-Some.is in
-    (somebody c.requires (omega arith) z.0 z.1).place
 
 pub returns : goal.returns
 returns c =

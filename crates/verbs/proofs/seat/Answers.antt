@@ -1,10 +1,6 @@
 -- `seat` meets its contract: a number, a parent and a wake make the newcomer.
-use Rattle.verbs.specs.Seats.{named, seats}
+use Rattle.verbs.specs.Seats.{seats}
 use Rattle.verbs.proofs.seat.Goals as goal
-
-pub wake-requires : goal.wake-requires
-wake-requires c =
-    ((named c.requires.0 c.requires.1 c.name.ensures c.raise.ensures).whole, c.requires.1, c.requires.2)
 
 pub returns : goal.returns
 returns c =

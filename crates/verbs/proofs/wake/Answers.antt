@@ -3,10 +3,6 @@ use Rattle.verbs.specs.Steps.{heard}
 use Rattle.verbs.specs.Verbs.{woke}
 use Rattle.verbs.proofs.wake.Goals as goal
 
-pub ready-requires : goal.ready-requires
-ready-requires c =
-    ((heard c.requires.0 c.requires.1 c.tell.ensures).whole, c.requires.1, c.requires.2)
-
 pub returns : goal.returns
 returns c =
     woke c.requires.0 c.requires.1 (heard c.requires.0 c.requires.1 c.tell.ensures) c.ready.ensures

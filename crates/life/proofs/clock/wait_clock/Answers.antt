@@ -10,9 +10,6 @@ use Rattle.life.proofs.clock.wait_clock.Goals as goal
 pub returns-in_default : goal.returns-in_default
 returns-in_default c = wait_1 c.requires (place_none c.runner.ensures c.in_default.is) refl
 
-pub stand-requires : goal.stand-requires
-stand-requires c = (calls c.requires c.runner.ensures c.in-Some.is).place
-
 pub join-requires : goal.join-requires
 join-requires c =
     let k = calls c.requires c.runner.ensures c.in-Some.is in

@@ -1,14 +1,10 @@
 -- `create` meets its contract: refused where all places are filled; else the lowest empty one takes the newcomer.
 use mathlib.Core.Path.{refl}
-use Rattle.verbs.specs.Address.{seated}
 use Rattle.life.specs.Create.{create_6, seat_place, seat_loose, create_0}
 use Rattle.life.proofs.create.create.Goals as goal
 
 pub returns-then-count : goal.returns-then-count
 returns-then-count c = create_6 c.requires c.count.ensures c.if-count.true refl
-
-pub creator-parent-requires : goal.creator-parent-requires
-creator-parent-requires c = seated c.requires
 
 pub seat-requires : goal.seat-requires
 seat-requires c =

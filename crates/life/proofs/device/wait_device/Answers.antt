@@ -16,9 +16,6 @@ pub returns-then-i : goal.returns-then-i
 returns-then-i c =
     device_2 c.requires c.args.i (calls c.requires c.runner.ensures c.in-Some.is).busy (omega (arith, c.if-i.true)) refl
 
-pub stand-requires : goal.stand-requires
-stand-requires c = (calls c.requires c.runner.ensures c.in-Some.is).place
-
 pub join-requires : goal.join-requires
 join-requires c =
     let k = calls c.requires c.runner.ensures c.in-Some.is in

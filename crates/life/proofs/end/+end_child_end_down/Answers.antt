@@ -2,7 +2,7 @@
 use mathlib.Core.Path.{sym, ◌∙◌}
 use Rattle.std.proofs.Common.{arith}
 use Rattle.std.proofs.lemmas.Bool.{eqb-true, eqb-false, not-true, not-false}
-use Rattle.life.specs.Family.{no_child, child_may, child_ended, deeper, one_deeper, sweep_start, sweep_again, sweep_end}
+use Rattle.life.specs.Family.{no_child, child_may, child_ended, deeper, one_deeper, sweep_again, sweep_end}
 use Rattle.life.proofs.end.+end_child_end_down.Goals as goal
 
 pub end_child-returns-then-ne : goal.end_child-returns-then-ne
@@ -19,9 +19,6 @@ pub end_child-returns : goal.end_child-returns
 end_child-returns t c =
     child_ended c.requires.0 c.requires.1 c.requires.2 c.parent_of.ensures c.number_of.ensures (eqb-true _ _ (not-false _ (sym c.ne.ensures ∙ c.if-ne.false)))
     c.end_down.ensures
-
-pub end_down-loop-r-init : goal.end_down-loop-r-init
-end_down-loop-r-init t c = sweep_start c.requires.0 c.requires.1
 
 pub end_down-overflow_sub-depth : goal.end_down-overflow_sub-depth
 end_down-overflow_sub-depth t c = deeper c.loop-r.invariant.may

@@ -1,15 +1,6 @@
 -- `end_at` meets its contract: the hand-backs, the leave and the cleaning are the rule's, in an order that makes no difference.
-use native.Mathlib.Omega.{arith}
 use Rattle.life.specs.End.{end_place, end_low, end_lies, let_lies, end_served, ended}
 use Rattle.life.proofs.end.end_at.Goals as goal
-
-pub overflow_add-p : goal.overflow_add-p
-overflow_add-p c = let h = end_place c.requires in omega arith
-
-pub hand_all_back-requires : goal.hand_all_back-requires
-hand_all_back-requires c =
-    let h = end_place c.requires in
-    (c.requires.whole, omega arith, omega arith)
 
 pub let_go-requires : goal.let_go-requires
 let_go-requires c =
@@ -25,11 +16,6 @@ out_of_line-e-requires c = (
   end_place c.requires,
   end_served c.requires c.hand_all_back.ensures c.let_go.ensures c.wake_listeners.ensures,
 )
-
-pub clean-requires : goal.clean-requires
-clean-requires c =
-    let k = c.out_of_line-e.ensures.whole in
-    (record { blocks = k.blocks; words = k.words }, end_place c.requires)
 
 pub returns : goal.returns
 returns c =

@@ -1,17 +1,10 @@
 -- `end_one` meets its contract: the thread ends by the whole rule, and its place leaves the set of filled ones.
-use Rattle.life.specs.Family.{one_place, ends_at, emptied_one}
+use Rattle.life.specs.Family.{ends_at, emptied_one}
 use Rattle.life.proofs.end.end_one.Goals as goal
-
-pub number_of-n-requires : goal.number_of-n-requires
-number_of-n-requires c = one_place c.requires.0 c.requires.1 _ c.requires.2
 
 pub end_at-e-requires : goal.end_at-e-requires
 end_at-e-requires c =
     ends_at c.requires.0 c.requires.1 _ c.requires.2 c.number_of-n.ensures
-
-pub less-requires : goal.less-requires
-less-requires c =
-    one_place c.requires.0 c.requires.1 _ c.requires.2
 
 pub returns : goal.returns
 returns c =

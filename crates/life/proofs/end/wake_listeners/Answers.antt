@@ -1,11 +1,8 @@
 -- `wake_listeners` meets its contract: the places from here on are left to do.
 use native.Mathlib.Omega.{arith}
 use Rattle.order.specs.HandBack.{listening_fair}
-use Rattle.life.specs.LetGo.{let_start, let_again, let_end}
+use Rattle.life.specs.LetGo.{let_again, let_end}
 use Rattle.life.proofs.end.wake_listeners.Goals as goal
-
-pub loop-p-init : goal.loop-p-init
-loop-p-init c = let_start c.requires.0
 
 pub loop-p-preserved : goal.loop-p-preserved
 loop-p-preserved c =

@@ -1,12 +1,9 @@
 -- `State::live` meets its contract: the live count is the ones of the filled set.
-use mathlib.Core.Path.{refl, sym, ◌∙◌}
+use mathlib.Core.Path.{sym, ◌∙◌}
 use Rattle.table.specs.Cells.{stands_at}
 use Rattle.table.specs.Choose.{live_is}
-use Rattle.nucleus.specs.View.{held, refused}
+use Rattle.nucleus.specs.View.{held}
 use Rattle.nucleus.proofs.State.live.Goals as goal
-
-pub returns-then-not-consistent : goal.returns-then-not-consistent
-returns-then-not-consistent c = refused (c.consistent.ensures.no c.if-not-consistent.true) refl
 
 pub returns : goal.returns
 returns c =

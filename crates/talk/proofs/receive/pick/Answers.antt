@@ -1,24 +1,14 @@
 -- `pick` meets its contract: whom a search from here on finds is whom the whole search finds.
-use mathlib.Core.Path.{◌≡◌, sym, ap, ◌∙◌}
+use mathlib.Core.Path.{sym, ap, ◌∙◌}
 use mathlib.Core.Bool.{Bool, ◌||◌}
 use lib.Dec.{eqb}
 use Rattle.lists.specs.Known.{known_none}
 use Rattle.rules.specs.Values.{place_known}
-use Rattle.rules.specs.Known.{place_at}
-use Rattle.talk.specs.Pick.{pick_start, pick_at, pick_end, pick_place, pick_here, pick_again, pick_less}
+use Rattle.talk.specs.Pick.{pick_at, pick_end, pick_place, pick_again, pick_less}
 use Rattle.talk.proofs.receive.pick.Goals as goal
-
-pub loop-next-init : goal.loop-next-init
-loop-next-init c = pick_start _ _ _ _ c.first-next.ensures
 
 pub number_of-k-requires : goal.number_of-k-requires
 number_of-k-requires c = let g = pick_at c.loop-next.invariant c.in-Some.is in pick_place g.0 c.requires.0 c.requires.1 g.1
-
-pub returns-then-n-eq : goal.returns-then-n-eq
-returns-then-n-eq c =
-    let g = pick_at c.loop-next.invariant c.in-Some.is in
-    let e = ap (λ (t : Bool). eqb c.args.n.0 255 || t) (sym c.eq.ensures) ∙ c.if-n-eq.true in
-    place_at (sym (pick_here g.0 c.requires.0 c.requires.1 g.1 c.number_of-k.ensures e)) g.1
 
 pub after-next-requires : goal.after-next-requires
 after-next-requires c = let g = pick_at c.loop-next.invariant c.in-Some.is in (c.requires.0, pick_place g.0 c.requires.0 c.requires.1 g.1)

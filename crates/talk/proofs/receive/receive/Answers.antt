@@ -6,7 +6,7 @@ use Rattle.rules.specs.Known.{place_none, place_some}
 use Rattle.events.specs.Events.{done_is}
 use Rattle.verbs.specs.Steps.{stood}
 use Rattle.verbs.specs.Caller.{caller_place}
-use Rattle.verbs.specs.Address.{seated, handed_on}
+use Rattle.verbs.specs.Address.{handed_on}
 use Rattle.talk.proofs.Received.{receive_not, receive_busy, receive_0, match_place, received, receives}
 use Rattle.talk.proofs.receive.receive.Goals as goal
 

@@ -4,13 +4,6 @@ use Rattle.verbs.specs.Steps.{stood, heard, left}
 use Rattle.talk.proofs.Received.{took}
 use Rattle.talk.proofs.receive.take.Goals as goal
 
-pub overflow_add-c : goal.overflow_add-c
-overflow_add-c c = omega (arith, c.requires.1)
-
-pub leave-requires : goal.leave-requires
-leave-requires c =
-    (c.requires.0.lines, omega (arith, c.requires.1), c.requires.2)
-
 pub returns : goal.returns
 returns c =
     let h = c.requires.1 in

@@ -5,9 +5,6 @@ use Rattle.verbs.specs.Address.{met_place}
 use Rattle.talk.specs.Reply.{replied}
 use Rattle.talk.proofs.reply.hand_over.Goals as goal
 
-pub number_of-me-requires : goal.number_of-me-requires
-number_of-me-requires c = caller_place c.requires.stands c.requires.busy
-
 pub ready-requires : goal.ready-requires
 ready-requires c =
     (c.requires.stands.whole, caller_place c.requires.stands c.requires.busy, caller_loose c.requires.stands c.requires.busy)

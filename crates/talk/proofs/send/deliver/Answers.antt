@@ -6,15 +6,8 @@ use Rattle.verbs.specs.Address.{met_place}
 use Rattle.talk.specs.Send.{met_loose, met, unmet}
 use Rattle.talk.proofs.send.deliver.Goals as goal
 
-pub number_of-me-requires : goal.number_of-me-requires
-number_of-me-requires c = caller_place c.requires.stands c.requires.busy
-
 pub listens-requires : goal.listens-requires
 listens-requires c = met_place c.requires
-
-pub stand-requires : goal.stand-requires
-stand-requires c =
-    caller_place c.requires.stands c.requires.busy
 
 pub wake-requires : goal.wake-requires
 wake-requires c =
@@ -25,10 +18,6 @@ returns-then-listens c =
     let s = stood c.requires.stands.whole (caller_place c.requires.stands c.requires.busy) c.stand.ensures in
     met c.requires c.number_of-me.ensures c.listens.ensures c.if-listens.true c.turned_to-e.ensures
     (then s c.wake.ensures)
-
-pub stand-requires-2 : goal.stand-requires-2
-stand-requires-2 c =
-    caller_place c.requires.stands c.requires.busy
 
 pub overflow_add-p : goal.overflow_add-p
 overflow_add-p c = let h = met_place c.requires in omega arith

@@ -1,14 +1,11 @@
 -- `find` meets its contract: whom a search from here on finds is whom the whole search finds.
-use mathlib.Core.Path.{refl, sym, ap, ◌∙◌}
+use mathlib.Core.Path.{sym, ap, ◌∙◌}
 use native.Mathlib.Omega.{arith}
 use Rattle.rules.specs.Values.{place_known}
 use Rattle.rules.specs.Known.{place_at}
 use Rattle.verbs.specs.Find.{found_past, found_here, found_dead, found_other}
 use Rattle.verbs.proofs.address.find.Goals as goal
 use Rattle.verbs.proofs.address.find.Goals.{else-t-i-ne-EMPTY, then-t-i-ne-EMPTY+else-t-i}
-
-pub loop-i-init : goal.loop-i-init
-loop-i-init c = refl
 
 pub returns-then-t-i : goal.returns-then-t-i
 returns-then-t-i c =

@@ -4,9 +4,9 @@ use lib.ListN.{get_or}
 use Prim.Native.Nat.{ℕ}
 use Rattle.std.proofs.Common.{eqb-true}
 use Rattle.std.proofs.lemmas.Bool.{eqb-false}
-use Rattle.rules.specs.Known.{place_none, place_some}
+use Rattle.rules.specs.Known.{place_some}
 use Rattle.table.specs.Cells.{cell}
-use Rattle.verbs.specs.Address.{names_1, names_2, names_3, names_0}
+use Rattle.verbs.specs.Address.{names_3, names_0}
 use Rattle.verbs.proofs.address.names.Goals as goal
 
 pub returns-then-eq : goal.returns-then-eq

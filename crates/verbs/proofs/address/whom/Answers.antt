@@ -1,6 +1,5 @@
 -- `whom` meets its contract: the caller may not name the number, or it is not live, or it is found.
-use mathlib.Core.Path.{sym, ap, subst, ◌∙◌}
-use Rattle.verbs.specs.Address.{Addresses, handed_on, addresses_not, addresses}
+use Rattle.verbs.specs.Address.{handed_on, addresses_not, addresses}
 use Rattle.verbs.proofs.address.whom.Goals as goal
 
 pub returns-in_err-names : goal.returns-in_err-names
