@@ -1,4 +1,5 @@
 pub mod Format
+pub mod Puts
 pub mod Editions
 pub mod Layout
 pub mod Queues

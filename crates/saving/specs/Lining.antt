@@ -1,43 +1,34 @@
 -- A line is walked, place by place, and written.
-use Rattle.std.specs.Prelude.{◌≡◌, refl, List, [], ◌∷◌, Option, Some, ℕ, ◌+◌, ◌≤◌, ◌<◌, length, set}
-use Rattle.std.proofs.Common.{sym, ◌∙◌, arith}
+use Rattle.std.specs.Prelude.{◌≡◌, refl, List, [], ◌∷◌, Option, Some, ℕ}
+use Rattle.std.proofs.Common.{◌∙◌, arith}
 use Rattle.lists.specs.Lists.{none, known, KnownBy, front}
 use Rattle.lists.specs.Known.{known_some, known_of}
 use Rattle.lists.specs.Sizes.{places}
-use Rattle.lists.specs.Laid.{laid, Wrote, laid_length, laid_one, Going, going_start, going_more, going_end}
 use Rattle.lines.specs.Lines.{line_of}
 use Rattle.lines.specs.Passes.{left, Reaches, Passes, left_all, walk_start, walk_some}
+use Rattle.saving.specs.Puts.{Room, Puts, Putting, putting_start, putting_by, putting_more, putting_end}
+use Rattle.saving.specs.declared.writer.Writer.{Writer}
 
 -- a walk that goes on is at a place, of which all holds that was known of it
 pub walk_at : {P : ℕ → Type 0} {o : Option ℕ} {p : ℕ} → KnownBy P o → o ≡ Some p → P p × (p ≡ none → ⊥)
 walk_at {P} v f = let z = known_some v.1 f in (known_of v.1 P f v.2, λ y. z.1 (z.0 ∙ y))
 
--- line q was to be written into s, at a position; the walk has come to p, and the buffer is t, to be written at r
-pub record Lining (s : List ℕ) (at : ℕ) (l : List ℕ) (q : ℕ) (t : List ℕ) (r p : ℕ) : Type 0 where
+-- line q was to be written from v on; the walk has come to p, and the writer is w
+pub record Lining (v : Writer) (l : List ℕ) (q : ℕ) (w : Writer) (p : ℕ) : Type 0 where
   pub reaches : Reaches places l q p
-  pub going : Going (laid s at (line_of places l q)) (at + length (line_of places l q)) t r (left places l q p)
+  pub putting : Putting v (line_of places l q) w (left places l q p)
 
-pub lining_start : (s : List ℕ) (at : ℕ) (l : List ℕ) (q : ℕ) {o : Option ℕ} → o ≡ known (front (line_of places l q)) → at + length (line_of places l q) ≤ length s → KnownBy (Lining s at l q s at) o
-lining_start s at l q e h =
+pub lining_start : (v : Writer) (l : List ℕ) (q : ℕ) {o : Option ℕ} → o ≡ known (front (line_of places l q)) → Room v (line_of places l q) → KnownBy (Lining v l q v) o
+lining_start v l q e h =
     let p = front (line_of places l q) in
-    (p, e, record { reaches = walk_start places l q p refl; going = rw (left_all places l q p refl) (going_start s at (line_of places l q) h) })
+    (p, e, record { reaches = walk_start places l q p refl; putting = rw (left_all places l q p refl) (putting_start v (line_of places l q) h) })
 
-module _ {s : List ℕ} {at : ℕ} {l : List ℕ} {q : ℕ} {t : List ℕ} {r p : ℕ} (k : Lining s at l q t r p) where
-  pub lining_room : (p ≡ none → ⊥) → r < length t
-  lining_room f = let a = k.going.ends in let b = k.going.room in let z = walk_some places l q p k.reaches f in omega arith
+module _ {v : Writer} {l : List ℕ} {q : ℕ} {w : Writer} {p : ℕ} (k : Lining v l q w p) where
+  pub lining_room : (p ≡ none → ⊥) → Room w (p ∷ [])
+  lining_room f = let a = k.putting.going.ends in let b = k.putting.going.room in let z = walk_some places l q p k.reaches f in omega arith
 
-  pub lining_more : {o : Option ℕ} → (p ≡ none → ⊥) → KnownBy (Passes places l q p) o → KnownBy (Lining s at l q (set t r p) (r + 1)) o
-  lining_more f (v, e, n) = (
-    v,
-    e,
-    record {
-      reaches = n.reaches;
-      going = going_more {ys = p ∷ []} (rw n.left_is at k.going) (record { next = refl; bytes = laid_one t r p (lining_room f) });
-    },
-  )
+  pub lining_more : {u : Writer} {o : Option ℕ} → Puts w (p ∷ []) u → KnownBy (Passes places l q p) o → KnownBy (Lining v l q u) o
+  lining_more z (x, e, n) = (x, e, record { reaches = n.reaches; putting = putting_more {ys = p ∷ []} (putting_by k.putting n.left_is) z })
 
-  pub lining_length : at + length (line_of places l q) ≤ length s → length t ≡ length s
-  lining_length h = sym k.going.whole ∙ laid_length s at (line_of places l q) h
-
-  pub lining_end : left places l q p ≡ [] → Wrote s at (line_of places l q) t r
-  lining_end e = going_end (rw e at k.going)
+  pub lining_end : left places l q p ≡ [] → Puts v (line_of places l q) w
+  lining_end e = putting_end (putting_by k.putting e)

@@ -4,11 +4,12 @@ use Rattle.std.proofs.Common.{sym, ap, ◌∙◌, append_assoc, arith, length-ap
 use Rattle.lists.specs.Lists.{none, up_from, only}
 use Rattle.lists.specs.Search.{up_from_step}
 use Rattle.lists.specs.Only.{only_append}
-use Rattle.rules.specs.Model.{Place, places, Model, all_places, lives_at}
+use Rattle.lines.specs.Lines.{line_of}
+use Rattle.rules.specs.Model.{Place, Number, places, Model, all_places, lives_at}
 use Rattle.table.specs.Cells.{model_of, shown_in}
 use Rattle.table.specs.declared.Arrays.{Arrays}
 use Rattle.table.specs.declared.Desk.{Desk}
-use Rattle.saving.specs.Format.{live_places, body_of, bodies, contents, first_body, tail}
+use Rattle.saving.specs.Format.{live_places, parent_bytes, body_of, bodies, contents, first_body, tail}
 use Rattle.saving.specs.declared.format.Row.{Row}
 
 -- The model of the arrays. Nothing behind the head asks for the last number given or who runs, and so here it is none.
@@ -24,7 +25,11 @@ here m p = only (lives_at m) (p ∷ [])
 unfoldable pub lives_from : Model → Place → List Place
 lives_from m p = only (lives_at m) (up_from p (places - p))
 
--- the parts of the arrays' image that the contracts name: the body of p, if it lives; all bodies; the contents, for a first body at o; all behind the head
+-- the parts of the arrays' image that the contracts name: an inbox, line q, with the parent n; the body of p, if it lives; all bodies; the contents, for a first
+-- body at o; all behind the head
+abbrev pub inbox_in : Row → Number → List ℕ → ℕ → List ℕ
+inbox_in row n l q = length (line_of places l q) ∷ parent_bytes row n ++ line_of places l q
+
 abbrev pub body_in : Row → Arrays → Place → List ℕ
 body_in row a p = bodies row (held a) (here (held a) p)
 

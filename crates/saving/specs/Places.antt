@@ -1,7 +1,6 @@
 -- The writer's two loops over the places: first the contents, then the bodies. What is left to write is the same part, of the places that are left.
-use Rattle.std.specs.Prelude.{ℕ, ◌+◌, ◌≤◌, ◌<◌, ◌≡◌, List, ◌++◌, length}
+use Rattle.std.specs.Prelude.{ℕ, ◌+◌, ◌≤◌, ◌<◌, ◌≡◌, ◌++◌, length}
 use Rattle.std.proofs.Common.{ap, ◌∙◌, arith, length-append}
-use Rattle.lists.specs.Laid.{laid, Wrote, Going, going_start, going_room, going_more, going_end}
 use Rattle.lines.specs.Lines.{Tidy}
 use Rattle.rules.specs.Model.{Place, places, line_count, Model}
 use Rattle.table.specs.declared.Arrays.{Arrays}
@@ -9,41 +8,43 @@ use Rattle.saving.specs.Format.{live_places, bodies, contents}
 use Rattle.saving.specs.Longest.{longest_image}
 use Rattle.saving.specs.Parts.{held, here, lives_from, lives_start, lives_step, lives_end, bodies_append, contents_append}
 use Rattle.saving.specs.Entries.{PutsEntry, EntryPut}
+use Rattle.saving.specs.Puts.{Room, Puts, Putting, putting_start, putting_by, putting_room, putting_more, putting_end}
 use Rattle.saving.specs.declared.format.Row.{Row}
+use Rattle.saving.specs.declared.writer.Writer.{Writer}
 
--- ---- the bodies, written into s at a position: the loop has come to p, the buffer is t, to be written at r
-pub record Embodies (row : Row) (m : Model) (s : List ℕ) (at : ℕ) (t : List ℕ) (r : ℕ) (p : Place) : Type 0 where
-  pub going : Going (laid s at (bodies row m (live_places m))) (at + length (bodies row m (live_places m))) t r (bodies row m (lives_from m p))
+-- ---- the bodies, written from v on: the loop has come to p, and the writer is w
+pub record Embodies (row : Row) (m : Model) (v w : Writer) (p : Place) : Type 0 where
+  pub putting : Putting v (bodies row m (live_places m)) w (bodies row m (lives_from m p))
 
-pub bodies_start : (row : Row) (m : Model) (s : List ℕ) (at : ℕ) → at + length (bodies row m (live_places m)) ≤ length s → Embodies row m s at s at 0
-bodies_start row m s at h = record { going = rw (lives_start m) (going_start s at (bodies row m (live_places m)) h) }
+pub bodies_start : (row : Row) (m : Model) (v : Writer) → Room v (bodies row m (live_places m)) → Embodies row m v v 0
+bodies_start row m v h = record { putting = rw (lives_start m) (putting_start v (bodies row m (live_places m)) h) }
 
-module _ {row : Row} {m : Model} {s : List ℕ} {at : ℕ} {t : List ℕ} {r : ℕ} {p : Place} (g : Embodies row m s at t r p) where
+module _ {row : Row} {m : Model} {v w : Writer} {p : Place} (g : Embodies row m v w p) where
   module _ (h : p < places) where
     bodies_left : bodies row m (lives_from m p) ≡ bodies row m (here m p) ++ bodies row m (lives_from m (p + 1))
     bodies_left = ap (bodies row m) (lives_step m p h) ∙ bodies_append row m (here m p) (lives_from m (p + 1))
 
-    split : Going (laid s at (bodies row m (live_places m))) (at + length (bodies row m (live_places m))) t r (bodies row m (here m p) ++ bodies row m (lives_from m (p + 1)))
-    split = rw bodies_left at g.going
+    split : Putting v (bodies row m (live_places m)) w (bodies row m (here m p) ++ bodies row m (lives_from m (p + 1)))
+    split = putting_by g.putting bodies_left
 
-    pub bodies_room : r + length (bodies row m (here m p)) ≤ length t
-    bodies_room = going_room (bodies row m (here m p)) (bodies row m (lives_from m (p + 1))) split
+    pub bodies_room : Room w (bodies row m (here m p))
+    bodies_room = putting_room (bodies row m (here m p)) (bodies row m (lives_from m (p + 1))) split
 
-    pub bodies_more : {u : List ℕ} {v : ℕ} → Wrote t r (bodies row m (here m p)) u v → Embodies row m s at u v (p + 1)
-    bodies_more q = record { going = going_more split q }
+    pub bodies_more : {u : Writer} → Puts w (bodies row m (here m p)) u → Embodies row m v u (p + 1)
+    bodies_more q = record { putting = putting_more split q }
 
-  pub bodies_end : places ≤ p → Wrote s at (bodies row m (live_places m)) t r
-  bodies_end h = going_end (rw (lives_end m p h) at g.going)
+  pub bodies_end : places ≤ p → Puts v (bodies row m (live_places m)) w
+  bodies_end h = putting_end (putting_by g.putting (ap (bodies row m) (lives_end m p h)))
 
--- ---- the contents, written into s at a position, for a first body at o: now the next one starts at u
-pub record Lists (row : Row) (m : Model) (s : List ℕ) (at o : ℕ) (t : List ℕ) (r u : ℕ) (p : Place) : Type 0 where
-  pub going : Going (laid s at (contents row m o (live_places m))) (at + length (contents row m o (live_places m))) t r (contents row m u (lives_from m p))
+-- ---- the contents, written from v on, for a first body at o: now the next one starts at u
+pub record Lists (row : Row) (m : Model) (v : Writer) (o : ℕ) (w : Writer) (u : ℕ) (p : Place) : Type 0 where
+  pub putting : Putting v (contents row m o (live_places m)) w (contents row m u (lives_from m p))
   pub body : o + length (bodies row m (live_places m)) ≡ u + length (bodies row m (lives_from m p))
 
-pub contents_start : (row : Row) (m : Model) (s : List ℕ) (at o : ℕ) → at + length (contents row m o (live_places m)) ≤ length s → Lists row m s at o s at o 0
-contents_start row m s at o h = record { going = rw (lives_start m) (going_start s at (contents row m o (live_places m)) h); body = rw (lives_start m) }
+pub contents_start : (row : Row) (m : Model) (v : Writer) (o : ℕ) → Room v (contents row m o (live_places m)) → Lists row m v o v o 0
+contents_start row m v o h = record { putting = rw (lives_start m) (putting_start v (contents row m o (live_places m)) h); body = rw (lives_start m) }
 
-module _ {row : Row} {m : Model} {s : List ℕ} {at o : ℕ} {t : List ℕ} {r u : ℕ} {p : Place} (g : Lists row m s at o t r u p) where
+module _ {row : Row} {m : Model} {v : Writer} {o : ℕ} {w : Writer} {u : ℕ} {p : Place} (g : Lists row m v o w u p) where
   module _ (h : p < places) where
     left_is : contents row m u (lives_from m p) ≡ contents row m u (here m p) ++ contents row m (u + length (bodies row m (here m p))) (lives_from m (p + 1))
     left_is = ap (contents row m u) (lives_step m p h) ∙ contents_append row m u (here m p) (lives_from m (p + 1))
@@ -51,25 +52,25 @@ module _ {row : Row} {m : Model} {s : List ℕ} {at o : ℕ} {t : List ℕ} {r u
     size : length (bodies row m (lives_from m p)) ≡ length (bodies row m (here m p)) + length (bodies row m (lives_from m (p + 1)))
     size = ap length (ap (bodies row m) (lives_step m p h) ∙ bodies_append row m (here m p) (lives_from m (p + 1))) ∙ length-append (bodies row m (here m p)) (bodies row m (lives_from m (p + 1)))
 
-    next : Going (laid s at (contents row m o (live_places m))) (at + length (contents row m o (live_places m))) t r (contents row m u (here m p) ++ contents row m (u + length (bodies row m (here m p))) (lives_from m (p + 1)))
-    next = rw left_is at g.going
+    next : Putting v (contents row m o (live_places m)) w (contents row m u (here m p) ++ contents row m (u + length (bodies row m (here m p))) (lives_from m (p + 1)))
+    next = putting_by g.putting left_is
 
-    pub contents_more : {t' : List ℕ} {r' u' : ℕ} → EntryPut row m p t r u t' r' u' → Lists row m s at o t' r' u' (p + 1)
+    pub contents_more : {w' : Writer} {u' : ℕ} → EntryPut row m p w u w' u' → Lists row m v o w' u' (p + 1)
     contents_more q = record {
-      going = rw q.body (going_more next q.wrote);
+      putting = rw q.body (putting_more next q.puts);
       body = let a = size in let b = q.body in let c = g.body in omega arith;
     }
 
-    pub contents_room : r + length (contents row m u (here m p)) ≤ length t
-    contents_room = going_room (contents row m u (here m p)) (contents row m (u + length (bodies row m (here m p))) (lives_from m (p + 1))) next
+    pub contents_room : Room w (contents row m u (here m p))
+    contents_room = putting_room (contents row m u (here m p)) (contents row m (u + length (bodies row m (here m p))) (lives_from m (p + 1))) next
 
     pub contents_low : o + length (bodies row m (live_places m)) ≤ longest_image → u + length (bodies row m (here m p)) ≤ longest_image
     contents_low i = let a = size in let c = g.body in omega arith
 
-  pub contents_end : places ≤ p → Wrote s at (contents row m o (live_places m)) t r
-  contents_end h = going_end (rw (lives_end m p h) at g.going)
+  pub contents_end : places ≤ p → Puts v (contents row m o (live_places m)) w
+  contents_end h = putting_end (putting_by g.putting (ap (contents row m u) (lives_end m p h)))
 
 -- what entering a place asks for
-pub enters : {row : Row} {a : Arrays} {s : List ℕ} {at o : ℕ} {t : List ℕ} {r u : ℕ} {p : Place} → Lists row (held a) s at o t r u p → Tidy places line_count a.lines → p < places
-    → o + length (bodies row (held a) (live_places (held a))) ≤ longest_image → PutsEntry row a p t r u
+pub enters : {row : Row} {a : Arrays} {v : Writer} {o : ℕ} {w : Writer} {u : ℕ} {p : Place} → Lists row (held a) v o w u p → Tidy places line_count a.lines → p < places
+    → o + length (bodies row (held a) (live_places (held a))) ≤ longest_image → PutsEntry row a p w u
 enters g k h i = record { lines = k; place = h; room = contents_room g h; low = contents_low g h i }

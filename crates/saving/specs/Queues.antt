@@ -5,10 +5,11 @@ use Rattle.lists.specs.Sizes.{queue_count}
 use Rattle.lists.specs.Lists.{up_from}
 use Rattle.lists.specs.Laws.{by_test}
 use Rattle.lists.specs.Search.{up_from_step, up_from_length}
-use Rattle.lists.specs.Laid.{laid, Wrote, Going, going_start, going_room, going_more, going_end}
 use Rattle.rules.specs.Model.{Place, places, line_count, inbox}
 use Rattle.saving.specs.Format.{queues_in, sizes, joined}
+use Rattle.saving.specs.Puts.{Room, Puts, Putting, putting_start, putting_by, putting_room, putting_more, putting_end}
 use Rattle.saving.specs.declared.format.Row.{Row}
+use Rattle.saving.specs.declared.writer.Writer.{Writer}
 
 -- ---- the lines are the queues and, behind them, the inboxes
 pub inbox_at : (p : Place) → inbox p ≡ queue_count + p
@@ -92,25 +93,24 @@ module _ (f : ℕ → List Place) (row : Row) where
   pub waiting_end : (q : ℕ) → row.queues ≤ q → length (joined f (queues_from row q)) ≡ 0
   waiting_end q h = ap (λ (qs : List ℕ). length (joined f qs)) (queues_end row q h)
 
--- ---- they are written, lengths or places: g of the row's queues was to be written into s, at a position; the loop has come to line q, and the buffer is t,
--- to be written at r
-pub record Queueing (g : List ℕ → List ℕ) (row : Row) (s : List ℕ) (at : ℕ) (t : List ℕ) (r q : ℕ) : Type 0 where
-  pub going : Going (laid s at (g (queues_in row))) (at + length (g (queues_in row))) t r (g (queues_from row q))
+-- ---- they are written, lengths or places: g of the row's queues was to be written from v on; the loop has come to line q, and the writer is w
+pub record Queueing (g : List ℕ → List ℕ) (row : Row) (v w : Writer) (q : ℕ) : Type 0 where
+  pub putting : Putting v (g (queues_in row)) w (g (queues_from row q))
 
-pub queueing_start : (g : List ℕ → List ℕ) (row : Row) (s : List ℕ) (at : ℕ) → at + length (g (queues_in row)) ≤ length s → Queueing g row s at s at 0
-queueing_start g row s at h = record { going = rw (queues_start row) (going_start s at (g (queues_in row)) h) }
+pub queueing_start : (g : List ℕ → List ℕ) (row : Row) (v : Writer) → Room v (g (queues_in row)) → Queueing g row v v 0
+queueing_start g row v h = record { putting = rw (queues_start row) (putting_start v (g (queues_in row)) h) }
 
-module _ {g : List ℕ → List ℕ} {row : Row} {s : List ℕ} {at : ℕ} {t : List ℕ} {r q : ℕ} (k : Queueing g row s at t r q) where
+module _ {g : List ℕ → List ℕ} {row : Row} {v w : Writer} {q : ℕ} (k : Queueing g row v w q) where
   -- ys is what line q adds
   module _ (h : q < row.queues) (ys : List ℕ) (adds : (qs : List ℕ) → g (q ∷ qs) ≡ ys ++ g qs) where
-    split : Going (laid s at (g (queues_in row))) (at + length (g (queues_in row))) t r (ys ++ g (queues_from row (q + 1)))
-    split = rw (ap g (queues_step row q h) ∙ adds (queues_from row (q + 1))) at k.going
+    split : Putting v (g (queues_in row)) w (ys ++ g (queues_from row (q + 1)))
+    split = putting_by k.putting (ap g (queues_step row q h) ∙ adds (queues_from row (q + 1)))
 
-    pub queueing_room : r + length ys ≤ length t
-    queueing_room = going_room ys (g (queues_from row (q + 1))) split
+    pub queueing_room : Room w ys
+    queueing_room = putting_room ys (g (queues_from row (q + 1))) split
 
-    pub queueing_more : {u : List ℕ} {v : ℕ} → Wrote t r ys u v → Queueing g row s at u v (q + 1)
-    queueing_more w = record { going = going_more split w }
+    pub queueing_more : {u : Writer} → Puts w ys u → Queueing g row v u (q + 1)
+    queueing_more p = record { putting = putting_more split p }
 
-  pub queueing_end : g [] ≡ [] → row.queues ≤ q → Wrote s at (g (queues_in row)) t r
-  queueing_end e h = going_end (rw (ap g (queues_end row q h) ∙ e) at k.going)
+  pub queueing_end : g [] ≡ [] → row.queues ≤ q → Puts v (g (queues_in row)) w
+  queueing_end e h = putting_end (putting_by k.putting (ap g (queues_end row q h) ∙ e))

@@ -1,8 +1,7 @@
 -- How the code comes to each outcome of a save: the image stands in front of an array of its own, from where it is copied.
-use Rattle.std.specs.Prelude.{ℕ, ◌+◌, ◌≤◌, ◌<◌, ◌≡◌, refl, List, false, length, take, drop}
-use Rattle.std.proofs.Common.{sym, ap, ◌∙◌, arith, length-append, length-take-le, take_at}
+use Rattle.std.specs.Prelude.{ℕ, ◌≤◌, ◌<◌, ◌≡◌, refl, List, ◌++◌, false, length, take, drop}
+use Rattle.std.proofs.Common.{sym, ap, ◌∙◌, arith, length-append, take_at}
 use Rattle.lists.specs.Sizes.{queue_count}
-use Rattle.lists.specs.Laid.{laid, Wrote, laid_front}
 use Rattle.table.specs.Cells.{StandsByIn}
 use Rattle.nucleus.specs.View.{view, Consists}
 use Rattle.nucleus.specs.declared.State.{State}
@@ -29,9 +28,6 @@ module _ {s : State} (k : Consists s) {row : Row} (f : row ≡ newest) {i t : Li
   pub image_fits : r ≤ length t
   image_fits = let a = image.size in let b = ap length image.bytes ∙ length-append (encode (view s)) (drop r i) in omega arith
 
-  pub image_size : r ≡ length (take r t)
-  image_size = sym (length-take-le r t image_fits)
-
   image_is : take r t ≡ encode (view s)
   image_is = ap (take r) image.bytes ∙ take_at (encode (view s)) (drop r i) r (sym image.size)
 
@@ -39,11 +35,7 @@ module _ {s : State} (k : Consists s) {row : Row} (f : row ≡ newest) {i t : Li
     pub save_7 : length before < r → Saves s before 7 0 before
     save_7 h = let a = image.size in short k (omega arith) (record { code_is = refl; length_is = refl; bytes_are = refl })
 
-    module _ (h : r ≤ length before) where
-      pub save_room : 0 + length (take r t) ≤ length before
-      save_room = let a = image_size in omega arith
-
-      pub save_0 : {a : List ℕ} {v : ℕ} → Wrote before 0 (take r t) a v → Saves s before 0 r a
-      save_0 q =
-          let z = image.size in
-          saved k (omega arith) (record { code_is = refl; length_is = z; bytes_are = q.bytes ∙ ap (laid before 0) image_is ∙ laid_front before (encode (view s)) })
+    pub save_0 : r ≤ length before → {xs : List ℕ} → xs ≡ take r t → Saves s before 0 r (xs ++ drop r before)
+    save_0 h e =
+        let z = image.size in
+        saved k (omega arith) (record { code_is = refl; length_is = z; bytes_are = rw (e, image_is, z) })

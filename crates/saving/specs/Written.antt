@@ -11,7 +11,9 @@ use Rattle.table.specs.declared.Arrays.{Arrays}
 use Rattle.saving.specs.Format.{head_length, queues_in, sizes, joined, first_body, encode_as}
 use Rattle.saving.specs.Longest.{longest_image}
 use Rattle.saving.specs.Parts.{held, bodies_in, contents_in, tail_in}
+use Rattle.saving.specs.Puts.{Room}
 use Rattle.saving.specs.declared.format.Row.{Row}
+use Rattle.saving.specs.declared.writer.Writer.{Writer}
 
 -- The image of m, in the edition of the row, is written into s: now it is t, and every byte past the image is as it was. Its length is r.
 pub record Written (row : Row) (m : Model) (s t : List ℕ) (r : ℕ) : Type 0 where
@@ -19,17 +21,17 @@ pub record Written (row : Row) (m : Model) (s t : List ℕ) (r : ℕ) : Type 0 w
   pub bytes : t ≡ encode_as row m ++ drop r s
 
 -- what the contents ask for
-pub record PutsContents (row : Row) (a : Arrays) (s : List ℕ) (at o : ℕ) : Type 0 where
+pub record PutsContents (row : Row) (a : Arrays) (v : Writer) (o : ℕ) : Type 0 where
   pub lines : Tidy places line_count a.lines
-  pub room : at + length (contents_in row a o) ≤ length s
+  pub room : Room v (contents_in row a o)
   pub low : o + length (bodies_in row a) ≤ longest_image
 
 -- and all behind the head
-pub record PutsTail (row : Row) (a : Arrays) (s : List ℕ) (o : ℕ) : Type 0 where
+pub record PutsTail (row : Row) (a : Arrays) (v : Writer) (o : ℕ) : Type 0 where
   pub lines : Tidy places line_count a.lines
   pub few : row.queues ≤ queue_count
   pub first : o ≡ first_body row (held a)
-  pub room : head_length row + length (tail_in row a) ≤ length s
+  pub room : Room v (tail_in row a)
   pub low : head_length row + length (tail_in row a) ≤ longest_image
 
 -- the lengths of a row's queues in the array of lines, and their places

@@ -16,27 +16,48 @@ pub struct Row {
 // The newest edition, which is the last that the table has.
 pub const NEWEST: u8 = 4;
 
-// Every queue that there is.
-const ALL: u8 = lines::QUEUES as u8;
-
-// How many queues each edition has, by its number: edition 1 has ready and clock, those behind it all. An edition that has none is not known.
-const QUEUES_BY: [u8; NEWEST as usize + 1] = [0, 2, ALL, ALL, ALL];
-
-// Which editions have each thread's parent.
-const PARENTS_BY: [bool; NEWEST as usize + 1] = [false, false, false, true, true];
-
 // The places that there were before P6.
 const PLACES_BEFORE: u8 = 32;
 
-// How many places each edition may name, by its number: the editions below 4 those that there were before P6, and edition 4 every one. In all else edition 4
-// has edition 3's layout.
-const PLACES_BY: [u8; NEWEST as usize + 1] = [
-    0,
-    PLACES_BEFORE,
-    PLACES_BEFORE,
-    PLACES_BEFORE,
-    lines::PLACES as u8,
-];
+// A row with no queues, no parents and no places: its edition is not known.
+const UNKNOWN: Row = Row {
+    edition: 0,
+    queues: 0,
+    parents: false,
+    places: 0,
+};
+
+// Edition 1 has the queues ready and clock.
+const FIRST: Row = Row {
+    edition: 1,
+    queues: 2,
+    parents: false,
+    places: PLACES_BEFORE,
+};
+
+// Edition 2 has every queue that there is.
+const SECOND: Row = Row {
+    edition: 2,
+    queues: lines::QUEUES as u8,
+    ..FIRST
+};
+
+// Edition 3 has each thread's parent.
+const THIRD: Row = Row {
+    edition: 3,
+    parents: true,
+    ..SECOND
+};
+
+// Edition 4 may name every place. In all else it has edition 3's layout.
+const FOURTH: Row = Row {
+    edition: NEWEST,
+    places: lines::PLACES as u8,
+    ..THIRD
+};
+
+// The table of editions, by their numbers.
+const ROWS: [Row; NEWEST as usize + 1] = [UNKNOWN, FIRST, SECOND, THIRD, FOURTH];
 
 // Head: edition, last number, running place or 255, live count, a length for each queue, total length (2 bytes).
 pub const EDITION_AT: usize = 0;
@@ -86,19 +107,9 @@ pub const PARENT_AT: usize = 13;
 pub fn row_of(edition: u8) -> Row
     ensures { result ≡ row_of edition }
 {
-    if NEWEST < edition {
-        return Row {
-            edition,
-            queues: 0,
-            parents: false,
-            places: 0,
-        };
-    }
-    Row {
-        edition,
-        queues: QUEUES_BY[edition as usize],
-        parents: PARENTS_BY[edition as usize],
-        places: PLACES_BY[edition as usize],
+    match ROWS.get(usize::from(edition)) {
+        Some(row) => *row,
+        None => Row { edition, ..UNKNOWN },
     }
 }
 

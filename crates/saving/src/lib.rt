@@ -1,18 +1,17 @@
 // Saving: the image of a consistent state is written from front to back, as specs/Format.antt has it; the head comes last, since it tells the total.
-// Each function that writes gives the position behind what it wrote, and leaves every other byte as it was (`Wrote`).
+// Each function that writes does so by a writer, and leaves every other byte as it was (`Puts`).
 #![tactic(auto)]
 
 ghost use Rattle.std.specs.Prelude.{◌≡◌, false, [], ◌∷◌, ◌++◌, ◌+◌, ◌*◌, ◌%◌, ◌≤◌, ◌<◌, length};
 ghost use Rattle.lists.specs.Sizes.{places, queue_count, line_count};
-ghost use Rattle.lists.specs.Lists.{bit};
 ghost use Rattle.lists.specs.Bytes.{two_bytes, word_bytes};
-ghost use Rattle.lists.specs.Laid.{Wrote};
 ghost use Rattle.lines.specs.Lines.{line_of, Tidy};
 ghost use Rattle.table.specs.Cells.{as_thread, shown_in, StandsByIn};
 ghost use Rattle.nucleus.specs.View.{Consists};
 ghost use Rattle.saving.specs.Format.{head_length, entry_length, thread_bytes, parent_bytes};
+ghost use Rattle.saving.specs.Puts.{Room, Puts};
 ghost use Rattle.saving.specs.Longest.{longest_image};
-ghost use Rattle.saving.specs.Parts.{held, body_in, bodies_in, contents_in, tail_in};
+ghost use Rattle.saving.specs.Parts.{held, inbox_in, body_in, bodies_in, contents_in, tail_in};
 ghost use Rattle.saving.specs.Entries.{EntryPut, PutsEntry};
 ghost use Rattle.saving.specs.Written.{PutsContents, PutsTail, lengths_in, waiting_in, head_of, Written};
 ghost use Rattle.saving.specs.Save.{Saves};
@@ -22,24 +21,16 @@ use lines::Links;
 use nucleus::State;
 use rules::{Number, Place, codes};
 use table::{Arrays, Desk, Thread};
+use writer::Writer;
 
 pub mod format;
+pub mod writer;
 
 // The longest image: that of the newest edition, where every place lives and waits somewhere.
 pub const LONGEST: usize = LENGTHS_AT
     + lines::QUEUES
     + TOTAL
     + (ENTRY + BODY + PARENT + 1) * lines::PLACES;
-
-// Writes bytes at a position, and gives the position behind.
-fn put(out: &mut [u8], at: usize, bytes: &[u8]) -> usize
-    requires { at + length bytes.now ≤ length out.old }
-    ensures { Wrote out.old at bytes.now out.new result }
-{
-    let end = at + bytes.len();
-    out[at..end].copy_from_slice(bytes);
-    end
-}
 
 // How long line q is.
 fn measure(l: &Links, q: u8) -> u8
@@ -55,19 +46,16 @@ fn measure(l: &Links, q: u8) -> u8
     n
 }
 
-// Writes the places of line q, front first, and gives the position behind.
-fn put_line(out: &mut [u8], at: usize, l: &Links, q: u8) -> usize
-    requires { Tidy places line_count l.now × (q < line_count) × (at + length (line_of places l.now q) ≤ length out.old) }
-    ensures { Wrote out.old at (line_of places l.now q) out.new result }
+// Writes the places of line q, front first.
+fn put_line(w: &mut Writer, l: &Links, q: u8)
+    requires { Tidy places line_count l.now × (q < line_count) × Room w.old (line_of places l.now q) }
+    ensures { Puts w.old (line_of places l.now q) w.new }
 {
-    let mut end = at;
     let mut next = lines::first(l, q);
     while let Some(p) = next {
-        out[end] = p;
-        end += 1;
+        w.push(p);
         next = lines::after(l, p);
     }
-    end
 }
 
 // Two bytes and a word: a thread's standing, partner and word are written so, and its answer.
@@ -87,124 +75,103 @@ fn entry(p: Place, n: Number, offset: u16) -> [u8; ENTRY]
 }
 
 // Writes a thread without its parent and its inbox.
-fn put_thread(out: &mut [u8], at: usize, t: Thread) -> usize
-    requires { at + length (thread_bytes (as_thread t)) ≤ length out.old }
-    ensures { Wrote out.old at (thread_bytes (as_thread t)) out.new result }
+fn put_thread(w: &mut Writer, t: Thread)
+    requires { Room w.old (thread_bytes (as_thread t)) }
+    ensures { Puts w.old (thread_bytes (as_thread t)) w.new }
 {
     let answer = t.answer;
-    let call = six(t.standing, t.partner.0, t.word);
-    let told = six(answer.code, answer.who.0, answer.word);
-    let next = put(out, at, &call);
-    put(out, next, &told)
+    w.put(&six(t.standing, t.partner.0, t.word));
+    w.put(&six(answer.code, answer.who.0, answer.word));
 }
 
 // Writes the parent n, if the row has it.
-fn put_parent(out: &mut [u8], at: usize, row: Row, n: Number) -> usize
-    requires { at + length (parent_bytes row n.0) ≤ length out.old }
-    ensures { Wrote out.old at (parent_bytes row n.0) out.new result }
+fn put_parent(w: &mut Writer, row: Row, n: Number)
+    requires { Room w.old (parent_bytes row n.0) }
+    ensures { Puts w.old (parent_bytes row n.0) w.new }
 {
     if row.parents {
-        out[at] = n.0;
-        return at + PARENT;
+        w.push(n.0);
     }
-    at
 }
 
 // Writes an inbox, line q: its length, the parent n if the row has it, and its places.
-fn put_inbox(out: &mut [u8], at: usize, row: Row, n: Number, l: &Links, q: u8) -> usize
-    requires { Tidy places line_count l.now × (q < line_count) × (at + 1 + bit row.parents + length (line_of places l.now q) ≤ length out.old) }
-    ensures { Wrote out.old at (length (line_of places l.now q) ∷ parent_bytes row n.0 ++ line_of places l.now q) out.new result }
+fn put_inbox(w: &mut Writer, row: Row, n: Number, l: &Links, q: u8)
+    requires { Tidy places line_count l.now × (q < line_count) × Room w.old (inbox_in row n.0 l.now q) }
+    ensures { Puts w.old (inbox_in row n.0 l.now q) w.new }
 {
-    out[at] = measure(l, q);
-    let first = put_parent(out, at + 1, row, n);
-    put_line(out, first, l, q)
+    w.push(measure(l, q));
+    put_parent(w, row, n);
+    put_line(w, l, q);
 }
 
 // Writes the body of the place p, if a thread lives there.
-fn put_body(out: &mut [u8], at: usize, row: Row, a: &Arrays, p: Place) -> usize
-    requires { Tidy places line_count a.now.lines × (p.0 < places) × (at + length (body_in row a.now p.0) ≤ length out.old) }
-    ensures { Wrote out.old at (body_in row a.now p.0) out.new result }
+fn put_body(w: &mut Writer, row: Row, a: &Arrays, p: Place)
+    requires { Tidy places line_count a.now.lines × (p.0 < places) × Room w.old (body_in row a.now p.0) }
+    ensures { Puts w.old (body_in row a.now p.0) w.new }
 {
     let t = a.table.read(p);
     if t.standing == rules::EMPTY {
-        return at;
+        return;
     }
-    let next = put_thread(out, at, t);
-    put_inbox(out, next, row, t.parent, &a.lines, table::INBOX_LINES + p.0)
+    put_thread(w, t);
+    put_inbox(w, row, t.parent, &a.lines, table::INBOX_LINES + p.0);
 }
 
-// Where the next entry of the contents goes, and where the body that it names starts.
-#[derive(Clone, Copy)]
-struct Cursor {
-    at: usize,
-    body: u16,
-}
-
-// Writes the entry of the place p, if a thread lives there.
-fn put_entry(out: &mut [u8], c: Cursor, row: Row, a: &Arrays, p: Place) -> Cursor
-    requires { PutsEntry row a.now p.0 out.old c.at c.body }
-    ensures { EntryPut row (held a.now) p.0 out.old c.at c.body out.new result.at result.body }
+// Writes the entry of the place p, if a thread lives there, for a body at `body`, and gives where the next body starts.
+fn put_entry(w: &mut Writer, row: Row, a: &Arrays, p: Place, body: u16) -> u16
+    requires { PutsEntry row a.now p.0 w.old body }
+    ensures { EntryPut row (held a.now) p.0 w.old body w.new result }
 {
     let t = a.table.read(p);
     if t.standing == rules::EMPTY {
-        return c;
+        return body;
     }
-    let line = entry(p, t.number, c.body);
-    let next = put(out, c.at, &line);
+    w.put(&entry(p, t.number, body));
     let n = measure(&a.lines, table::INBOX_LINES + p.0);
-    Cursor {
-        at: next,
-        body: c.body + format::body_length(row) as u16 + u16::from(n),
-    }
+    body + format::body_length(row) as u16 + u16::from(n)
 }
 
-// Writes the contents at a position, for a first body at `first`.
+// Writes the contents, for a first body at `first`.
 // This loop and those below differ in their bodies, of a line or two each: one function with a closure would ask each caller for the contract of its closure,
 // which is longer than the loop.
-fn put_contents(out: &mut [u8], at: usize, row: Row, a: &Arrays, first: u16) -> usize
-    requires { PutsContents row a.now out.old at first }
-    ensures { Wrote out.old at (contents_in row a.now first) out.new result }
+fn put_contents(w: &mut Writer, row: Row, a: &Arrays, first: u16)
+    requires { PutsContents row a.now w.old first }
+    ensures { Puts w.old (contents_in row a.now first) w.new }
 {
-    let mut c = Cursor { at, body: first };
+    let mut body = first;
     for p in 0..lines::PLACES as u8 {
-        c = put_entry(out, c, row, a, Place(p));
+        body = put_entry(w, row, a, Place(p), body);
     }
-    c.at
 }
 
 // Writes the bodies.
-fn put_bodies(out: &mut [u8], at: usize, row: Row, a: &Arrays) -> usize
-    requires { Tidy places line_count a.now.lines × (at + length (bodies_in row a.now) ≤ length out.old) }
-    ensures { Wrote out.old at (bodies_in row a.now) out.new result }
+fn put_bodies(w: &mut Writer, row: Row, a: &Arrays)
+    requires { Tidy places line_count a.now.lines × Room w.old (bodies_in row a.now) }
+    ensures { Puts w.old (bodies_in row a.now) w.new }
 {
-    let mut next = at;
     for p in 0..lines::PLACES as u8 {
-        next = put_body(out, next, row, a, Place(p));
+        put_body(w, row, a, Place(p));
     }
-    next
 }
 
 // Writes the places of a row's queues.
-fn put_queues(out: &mut [u8], at: usize, row: Row, l: &Links) -> usize
-    requires { Tidy places line_count l.now × (row.queues ≤ queue_count) × (at + length (waiting_in row l.now) ≤ length out.old) }
-    ensures { Wrote out.old at (waiting_in row l.now) out.new result }
+fn put_queues(w: &mut Writer, row: Row, l: &Links)
+    requires { Tidy places line_count l.now × (row.queues ≤ queue_count) × Room w.old (waiting_in row l.now) }
+    ensures { Puts w.old (waiting_in row l.now) w.new }
 {
-    let mut next = at;
     for q in 0..row.queues {
-        next = put_line(out, next, l, q);
+        put_line(w, l, q);
     }
-    next
 }
 
 // Writes all behind the head: contents, queues, bodies.
-fn put_tail(out: &mut [u8], row: Row, a: &Arrays, first: u16) -> usize
-    requires { PutsTail row a.now out.old first }
-    ensures { Wrote out.old (head_length row) (tail_in row a.now) out.new result }
+fn put_tail(w: &mut Writer, row: Row, a: &Arrays, first: u16)
+    requires { PutsTail row a.now w.old first }
+    ensures { Puts w.old (tail_in row a.now) w.new }
 {
-    let at = format::head_length(row);
-    let queues = put_contents(out, at, row, a, first);
-    let next = put_queues(out, queues, row, &a.lines);
-    put_bodies(out, next, row, a)
+    put_contents(w, row, a, first);
+    put_queues(w, row, &a.lines);
+    put_bodies(w, row, a);
 }
 
 // Where the first body starts: behind the head, an entry for each that lives, and all that wait in a row's queues.
@@ -220,26 +187,23 @@ fn first_body(row: Row, l: &Links, live: u8) -> u16
 }
 
 // Writes the lengths of a row's queues.
-fn put_lengths(out: &mut [u8], at: usize, row: Row, l: &Links) -> usize
-    requires { Tidy places line_count l.now × (row.queues ≤ queue_count) × (at + length (lengths_in row l.now) ≤ length out.old) }
-    ensures { Wrote out.old at (lengths_in row l.now) out.new result }
+fn put_lengths(w: &mut Writer, row: Row, l: &Links)
+    requires { Tidy places line_count l.now × (row.queues ≤ queue_count) × Room w.old (lengths_in row l.now) }
+    ensures { Puts w.old (lengths_in row l.now) w.new }
 {
     for q in 0..row.queues {
-        out[at + usize::from(q)] = measure(l, q);
+        w.push(measure(l, q));
     }
-    at + usize::from(row.queues)
 }
 
 // Writes the head: edition, last number, running place, live count, the lengths of the queues, total length.
-fn put_head(out: &mut [u8], row: Row, l: &Links, d: Desk, live: u8, total: u16) -> usize
-    requires { Tidy places line_count l.now × (row.queues ≤ queue_count) × (head_length row ≤ length out.old) }
-    ensures { Wrote out.old 0 (head_of row d.last.0 d.running.0 live (lengths_in row l.now) total) out.new result }
+fn put_head(w: &mut Writer, row: Row, l: &Links, d: Desk, live: u8, total: u16)
+    requires { Tidy places line_count l.now × (row.queues ≤ queue_count) × Room w.old (head_of row d.last.0 d.running.0 live (lengths_in row l.now) total) }
+    ensures { Puts w.old (head_of row d.last.0 d.running.0 live (lengths_in row l.now) total) w.new }
 {
-    let first = [row.edition, d.last.0, d.running.0, live];
-    let at = put(out, 0, &first);
-    let next = put_lengths(out, at, row, l);
-    let last = total.to_le_bytes();
-    put(out, next, &last)
+    w.put(&[row.edition, d.last.0, d.running.0, live]);
+    put_lengths(w, row, l);
+    w.put(&total.to_le_bytes());
 }
 
 // Writes the image of a state that is consistent, by the old rules at least, in the edition of the row, and gives its length. The head comes last: it tells the
@@ -250,8 +214,12 @@ pub fn write(row: Row, a: &Arrays, d: Desk, out: &mut [u8]) -> usize
 {
     let live = filled::count(d.filled);
     let first = first_body(row, &a.lines, live);
-    let end = put_tail(out, row, a, first);
-    put_head(out, row, &a.lines, d, live, end as u16);
+    let at = format::head_length(row);
+    let mut w = Writer { out, at };
+    put_tail(&mut w, row, a, first);
+    let end = w.at;
+    w.at = 0;
+    put_head(&mut w, row, &a.lines, d, live, end as u16);
     end
 }
 
@@ -276,7 +244,7 @@ pub fn keep(s: State, buffer: &mut [u8]) -> Saved
             length: 0,
         };
     }
-    put(buffer, 0, &image[..n]);
+    buffer[..n].copy_from_slice(&image[..n]);
     Saved {
         code: codes::DONE,
         length: n,

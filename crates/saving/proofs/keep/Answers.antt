@@ -1,6 +1,6 @@
 -- `keep` meets its contract: 7 for a buffer that is too short, else the image in front.
 use native.Mathlib.Omega.{arith}
-use Rattle.saving.specs.Saving.{save_stands, save_few, image_fits, image_size, save_7, save_room, save_0}
+use Rattle.saving.specs.Saving.{save_stands, save_few, image_fits, save_7, save_0}
 use Rattle.saving.proofs.keep.Goals as goal
 
 pub write-n-requires : goal.write-n-requires
@@ -15,15 +15,6 @@ pub slice_bounds-image-end : goal.slice_bounds-image-end
 slice_bounds-image-end c =
     image_fits c.requires c.newest.ensures c.write-n.ensures
 
-pub slice_bounds-put-end : goal.slice_bounds-put-end
-slice_bounds-put-end c =
-    image_size c.requires c.newest.ensures c.write-n.ensures
-
-pub put-requires : goal.put-requires
-put-requires c =
-    save_room c.requires c.newest.ensures c.write-n.ensures c.args.buffer.now c.if-buffer-n.false
-
 pub returns : goal.returns
 returns c =
-    save_0 c.requires c.newest.ensures c.write-n.ensures c.args.buffer.now c.if-buffer-n.false
-    c.put.ensures
+    save_0 c.requires c.newest.ensures c.write-n.ensures c.args.buffer.now c.if-buffer-n.false c.copy_from_slice.ensures.after

@@ -4,15 +4,15 @@ use Rattle.saving.specs.Places.{bodies_start, bodies_room, bodies_more, bodies_e
 use Rattle.saving.proofs.put_bodies.Goals as goal
 
 pub loop-p-init : goal.loop-p-init
-loop-p-init c = let x = c.args in bodies_start x.row (held x.a.now) x.out.now x.at c.requires.1
+loop-p-init c = let x = c.args in bodies_start x.row (held x.a.now) x.w.now c.requires.1
 
-pub put_body-next-requires : goal.put_body-next-requires
-put_body-next-requires c =
+pub put_body-requires : goal.put_body-requires
+put_body-requires c =
     (c.requires.0, c.loop-p-test.true, bodies_room c.loop-p.invariant c.loop-p-test.true)
 
 pub loop-p-preserved : goal.loop-p-preserved
 loop-p-preserved c =
-    bodies_more c.loop-p.invariant c.loop-p-test.true c.put_body-next.ensures
+    bodies_more c.loop-p.invariant c.loop-p-test.true c.put_body.ensures
 
 pub returns : goal.returns
 returns c = bodies_end c.loop-p.invariant c.loop-p-test.false

@@ -4,4 +4,4 @@ use Rattle.saving.specs.Places.{Embodies}
 use Rattle.saving.proofs.put_bodies.Given as goal
 
 abbrev pub invariant-loop-p : goal.invariant-loop-p
-invariant-loop-p l = Embodies l.row (held l.a) l.initial.out l.at l.out l.next l.p
+invariant-loop-p l = Embodies l.row (held l.a) l.initial.w l.w l.p

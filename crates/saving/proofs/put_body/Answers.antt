@@ -6,21 +6,20 @@ use Rattle.saving.proofs.put_body.Goals as goal
 pub returns-then-t-eq-EMPTY : goal.returns-then-t-eq-EMPTY
 returns-then-t-eq-EMPTY c =
     let x = c.args in
-    body_none x.row x.a.now x.p.0 c.requires.1 c.read-t.ensures c.if-t-eq-EMPTY.true x.out.now x.at
+    body_none x.row x.a.now x.p.0 c.requires.1 c.read-t.ensures c.if-t-eq-EMPTY.true x.w.now
 
-pub put_thread-next-requires : goal.put_thread-next-requires
-put_thread-next-requires c =
+pub put_thread-requires : goal.put_thread-requires
+put_thread-requires c =
     let x = c.args in
-    thread_room x.row x.a.now x.p.0 c.requires.1 c.read-t.ensures c.if-t-eq-EMPTY.false x.out.now x.at
-    c.requires.2
+    thread_room x.row x.a.now x.p.0 c.requires.1 c.read-t.ensures c.if-t-eq-EMPTY.false x.w.now c.requires.2
 
 pub put_inbox-requires : goal.put_inbox-requires
 put_inbox-requires c =
     let x = c.args in
-    (search rules, search rules, inbox_room x.row x.a.now x.p.0 c.requires.1 c.read-t.ensures c.if-t-eq-EMPTY.false x.out.now x.at c.requires.2 c.put_thread-next.ensures)
+    (search rules, search rules, inbox_room x.row x.a.now x.p.0 c.requires.1 c.read-t.ensures c.if-t-eq-EMPTY.false x.w.now c.requires.2 c.put_thread.ensures)
 
 pub returns : goal.returns
 returns c =
     let x = c.args in
-    body_whole x.row x.a.now x.p.0 c.requires.1 c.read-t.ensures c.if-t-eq-EMPTY.false x.out.now x.at
-    c.requires.2 c.put_thread-next.ensures c.put_inbox.ensures
+    body_whole x.row x.a.now x.p.0 c.requires.1 c.read-t.ensures c.if-t-eq-EMPTY.false x.w.now c.requires.2 c.put_thread.ensures
+    c.put_inbox.ensures

@@ -4,4 +4,4 @@ use Rattle.saving.specs.Places.{Lists}
 use Rattle.saving.proofs.put_contents.Given as goal
 
 abbrev pub invariant-loop-p : goal.invariant-loop-p
-invariant-loop-p l = Lists l.row (held l.a) l.initial.out l.at l.first l.out l.c.at l.c.body l.p
+invariant-loop-p l = Lists l.row (held l.a) l.initial.w l.first l.w l.body l.p

@@ -5,17 +5,15 @@ use Rattle.saving.proofs.put_entry.Goals as goal
 pub returns-then-t-eq-EMPTY : goal.returns-then-t-eq-EMPTY
 returns-then-t-eq-EMPTY c =
     let x = c.args in
-    entry_none x.row x.a.now x.p.0 c.requires.place c.read-t.ensures c.if-t-eq-EMPTY.true x.out.now x.c.at x.c.body
+    entry_none x.row x.a.now x.p.0 c.requires.place c.read-t.ensures c.if-t-eq-EMPTY.true x.w.now x.body
 
-pub put-next-requires : goal.put-next-requires
-put-next-requires c =
+pub put-requires : goal.put-requires
+put-requires c =
     let x = c.args in
-    entry_room x.row x.a.now x.p.0 c.requires.place c.read-t.ensures c.if-t-eq-EMPTY.false c.requires
-    c.entry-line.ensures
+    entry_room x.row x.a.now x.p.0 c.requires.place c.read-t.ensures c.if-t-eq-EMPTY.false c.requires c.entry.ensures
 
 pub returns : goal.returns
 returns c =
     let x = c.args in
     entry_whole x.row x.a.now x.p.0 c.requires.place c.read-t.ensures c.if-t-eq-EMPTY.false c.requires
-    c.entry-line.ensures c.put-next.ensures c.measure-n.ensures c.from.ensures
-    c.body_length.ensures.0
+    c.entry.ensures c.put.ensures c.measure-n.ensures c.from.ensures c.body_length.ensures.0

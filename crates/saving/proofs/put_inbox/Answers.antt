@@ -1,27 +1,22 @@
 -- `put_inbox` meets its contract: how many places there are, behind it the parent, and behind that the places.
 use Rattle.lists.specs.Sizes.{places}
 use Rattle.lines.specs.Lines.{line_of}
-use Rattle.saving.proofs.Entries.{parent_fits, places_fit, inbox_whole, inbox_same_length}
+use Rattle.saving.specs.Format.{parent_bytes}
+use Rattle.saving.specs.Puts.{second_room, third_room, puts_three}
 use Rattle.saving.proofs.put_inbox.Goals as goal
 
-pub put_parent-first-requires : goal.put_parent-first-requires
-put_parent-first-requires c =
+pub put_parent-requires : goal.put_parent-requires
+put_parent-requires c =
     let a = c.args in
-    parent_fits a.row a.out.now (line_of places a.l.now a.q) a.at a.n.0 c.measure.ensures c.requires.2
+    second_room (rw c.measure.ensures at c.push.ensures) (parent_bytes a.row a.n.0) (line_of places a.l.now a.q) c.requires.2
 
 pub put_line-requires : goal.put_line-requires
 put_line-requires c =
     let a = c.args in
-    (c.requires.0, c.requires.1, places_fit a.row a.out.now (line_of places a.l.now a.q) a.at a.n.0 c.measure.ensures c.requires.2 c.put_parent-first.ensures)
-
-pub shape_of-out : goal.shape_of-out
-shape_of-out c =
-    let a = c.args in
-    inbox_same_length a.row a.out.now (line_of places a.l.now a.q) a.at a.n.0 c.measure.ensures c.requires.2 c.put_parent-first.ensures
-    c.put_line.ensures
+    (c.requires.0, c.requires.1, third_room (rw c.measure.ensures at c.push.ensures) (parent_bytes a.row a.n.0) (line_of places a.l.now a.q) c.requires.2 c.put_parent.ensures)
 
 pub returns : goal.returns
 returns c =
     let a = c.args in
-    inbox_whole a.row a.out.now (line_of places a.l.now a.q) a.at a.n.0 c.measure.ensures c.requires.2 c.put_parent-first.ensures
+    puts_three (rw c.measure.ensures at c.push.ensures) (parent_bytes a.row a.n.0) (line_of places a.l.now a.q) c.requires.2 c.put_parent.ensures
     c.put_line.ensures

@@ -1,5 +1,4 @@
 -- `put_lengths` meets its contract. The loop's invariant: the lengths of the queues that are left are left to write.
-use Prim.Native.Nat.{◌+◌}
 use Rattle.lists.specs.Sizes.{places}
 use Rattle.lines.specs.Lines.{line_of}
 use Rattle.saving.specs.Format.{sizes}
@@ -7,4 +6,4 @@ use Rattle.saving.specs.Queues.{Queueing}
 use Rattle.saving.proofs.put_lengths.Given as goal
 
 abbrev pub invariant-loop-q : goal.invariant-loop-q
-invariant-loop-q l = Queueing (sizes (line_of places l.l)) l.fn.row l.initial.out l.at l.out (l.at + l.q) l.q
+invariant-loop-q l = Queueing (sizes (line_of places l.l)) l.fn.row l.initial.w l.w l.q

@@ -7,7 +7,7 @@ use Rattle.saving.specs.Lining.{Lining}
 use Rattle.saving.proofs.put_line.Given as goal
 
 abbrev pub invariant-loop-next : goal.invariant-loop-next
-invariant-loop-next l = KnownBy (Lining l.initial.out l.at l.l l.q l.out l.end) l.next
+invariant-loop-next l = KnownBy (Lining l.initial.w l.l l.q l.w) l.next
 
 abbrev pub decreases-loop-next : goal.decreases-loop-next
 decreases-loop-next l = length (ahead places l.l l.q l.next)

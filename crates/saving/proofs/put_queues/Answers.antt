@@ -10,15 +10,15 @@ use Rattle.saving.proofs.put_queues.Goals as goal
 pub loop-q-init : goal.loop-q-init
 loop-q-init c =
     let a = c.args in
-    queueing_start (joined (line_of places a.l.now)) a.row a.out.now a.at c.requires.2
+    queueing_start (joined (line_of places a.l.now)) a.row a.w.now c.requires.2
 
-pub put_line-next-requires : goal.put_line-next-requires
-put_line-next-requires c =
+pub put_line-requires : goal.put_line-requires
+put_line-requires c =
     (c.requires.0, search rules, queueing_room c.loop-q.invariant c.loop-q-test.true (line_of places c.args.l.now c.loop-q.q) (λ qs. refl))
 
 pub loop-q-preserved : goal.loop-q-preserved
 loop-q-preserved c =
-    queueing_more c.loop-q.invariant c.loop-q-test.true (line_of places c.args.l.now c.loop-q.q) (λ qs. refl) c.put_line-next.ensures
+    queueing_more c.loop-q.invariant c.loop-q-test.true (line_of places c.args.l.now c.loop-q.q) (λ qs. refl) c.put_line.ensures
 
 pub returns : goal.returns
 returns c = queueing_end c.loop-q.invariant refl c.loop-q-test.false

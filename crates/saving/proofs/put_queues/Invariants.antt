@@ -6,4 +6,4 @@ use Rattle.saving.specs.Queues.{Queueing}
 use Rattle.saving.proofs.put_queues.Given as goal
 
 abbrev pub invariant-loop-q : goal.invariant-loop-q
-invariant-loop-q l = Queueing (joined (line_of places l.l)) l.fn.row l.initial.out l.at l.out l.next l.q
+invariant-loop-q l = Queueing (joined (line_of places l.l)) l.fn.row l.initial.w l.w l.q

@@ -1,18 +1,24 @@
 -- `put_tail` meets its contract: each part is written where the one before it ends.
-use Rattle.saving.proofs.Written.{tail_contents, queues_room, bodies_room, tail_whole}
+use Rattle.saving.specs.Parts.{bodies_in}
+use Rattle.saving.specs.Written.{waiting_in}
+use Rattle.saving.specs.Puts.{second_room, third_room, puts_three}
+use Rattle.saving.proofs.Written.{tail_is, tail_room, tail_contents}
 use Rattle.saving.proofs.put_tail.Goals as goal
 
-pub put_contents-queues-requires : goal.put_contents-queues-requires
-put_contents-queues-requires c = rw c.head_length-at.ensures (tail_contents c.requires)
+pub put_contents-requires : goal.put_contents-requires
+put_contents-requires c = tail_contents c.requires
 
-pub put_queues-next-requires : goal.put_queues-next-requires
-put_queues-next-requires c =
-    (c.requires.lines, c.requires.few, queues_room c.requires (rw c.head_length-at.ensures at c.put_contents-queues.ensures))
+pub put_queues-requires : goal.put_queues-requires
+put_queues-requires c =
+    let x = c.args in
+    (c.requires.lines, c.requires.few, second_room c.put_contents.ensures (waiting_in x.row x.a.now.lines) (bodies_in x.row x.a.now) (tail_room c.requires))
 
 pub put_bodies-requires : goal.put_bodies-requires
 put_bodies-requires c =
-    (c.requires.lines, bodies_room c.requires (rw c.head_length-at.ensures at c.put_contents-queues.ensures) c.put_queues-next.ensures)
+    let x = c.args in
+    (c.requires.lines, third_room c.put_contents.ensures (waiting_in x.row x.a.now.lines) (bodies_in x.row x.a.now) (tail_room c.requires) c.put_queues.ensures)
 
 pub returns : goal.returns
 returns c =
-    tail_whole c.requires (rw c.head_length-at.ensures at c.put_contents-queues.ensures) c.put_queues-next.ensures c.put_bodies.ensures
+    let x = c.args in
+    rw (tail_is c.requires) (puts_three c.put_contents.ensures (waiting_in x.row x.a.now.lines) (bodies_in x.row x.a.now) (tail_room c.requires) c.put_queues.ensures c.put_bodies.ensures)
