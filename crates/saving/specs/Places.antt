@@ -1,7 +1,7 @@
 -- The writer's two loops over the places: first the contents, then the bodies. What is left to write is the same part, of the places that are left.
 use Rattle.std.specs.Prelude.{ℕ, ◌+◌, ◌≤◌, ◌<◌, ◌≡◌, List, ◌++◌, length}
-use Rattle.std.proofs.Common.{ap, ◌∙◌, arith, length-append}
-use Rattle.lists.specs.Laid.{laid, Wrote, Going, going_start, going_room, going_more, going_end}
+use Rattle.std.proofs.Common.{sym, ap, ◌∙◌, arith, length-append}
+use Rattle.lists.specs.Laid.{laid, Wrote, laid_length, Going, going_start, going_room, going_more, going_end}
 use Rattle.lines.specs.Lines.{Tidy}
 use Rattle.rules.specs.Model.{Place, places, line_count, Model}
 use Rattle.table.specs.declared.Arrays.{Arrays}
@@ -31,6 +31,9 @@ module _ {row : Row} {m : Model} {s : List ℕ} {at : ℕ} {t : List ℕ} {r : �
 
     pub bodies_more : {u : List ℕ} {v : ℕ} → Wrote t r (bodies row m (here m p)) u v → Embodies row m s at u v (p + 1)
     bodies_more q = record { going = going_more split q }
+
+  pub bodies_length_is : at + length (bodies row m (live_places m)) ≤ length s → length t ≡ length s
+  bodies_length_is h = sym g.going.whole ∙ laid_length s at (bodies row m (live_places m)) h
 
   pub bodies_end : places ≤ p → Wrote s at (bodies row m (live_places m)) t r
   bodies_end h = going_end (rw (lives_end m p h) at g.going)
@@ -65,6 +68,9 @@ module _ {row : Row} {m : Model} {s : List ℕ} {at o : ℕ} {t : List ℕ} {r u
 
     pub contents_low : o + length (bodies row m (live_places m)) ≤ longest_image → u + length (bodies row m (here m p)) ≤ longest_image
     contents_low i = let a = size in let c = g.body in omega arith
+
+  pub contents_length_is : at + length (contents row m o (live_places m)) ≤ length s → length t ≡ length s
+  contents_length_is h = sym g.going.whole ∙ laid_length s at (contents row m o (live_places m)) h
 
   pub contents_end : places ≤ p → Wrote s at (contents row m o (live_places m)) t r
   contents_end h = going_end (rw (lives_end m p h) at g.going)

@@ -5,7 +5,7 @@ use Rattle.lists.specs.Sizes.{queue_count}
 use Rattle.lists.specs.Lists.{up_from}
 use Rattle.lists.specs.Laws.{by_test}
 use Rattle.lists.specs.Search.{up_from_step, up_from_length}
-use Rattle.lists.specs.Laid.{laid, Wrote, Going, going_start, going_room, going_more, going_end}
+use Rattle.lists.specs.Laid.{laid, Wrote, laid_length, Going, going_start, going_room, going_more, going_end}
 use Rattle.rules.specs.Model.{Place, places, line_count, inbox}
 use Rattle.saving.specs.Format.{queues_in, sizes, joined}
 use Rattle.saving.specs.declared.format.Row.{Row}
@@ -111,6 +111,9 @@ module _ {g : List ℕ → List ℕ} {row : Row} {s : List ℕ} {at : ℕ} {t : 
 
     pub queueing_more : {u : List ℕ} {v : ℕ} → Wrote t r ys u v → Queueing g row s at u v (q + 1)
     queueing_more w = record { going = going_more split w }
+
+  pub queueing_length : at + length (g (queues_in row)) ≤ length s → length t ≡ length s
+  queueing_length h = sym k.going.whole ∙ laid_length s at (g (queues_in row)) h
 
   pub queueing_end : g [] ≡ [] → row.queues ≤ q → Wrote s at (g (queues_in row)) t r
   queueing_end e h = going_end (rw (ap g (queues_end row q h) ∙ e) at k.going)
