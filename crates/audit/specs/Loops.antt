@@ -4,7 +4,7 @@ use Rattle.std.specs.List.{list_all, range_with_len}
 use Rattle.std.proofs.Common.{sym, ap, ◌∙◌, add-one, arith, length-set, get_or-set_same, get_or-set_other, eq-eqb, ne_eqb, le-leb}
 use Rattle.std.proofs.Math.Decide.{ℕ_discrete}
 use Rattle.std.proofs.lemmas.List.{length-replicate, get_or-replicate}
-use Rattle.std.proofs.lemmas.Bool.{eqb-false, not-true}
+use Rattle.std.proofs.lemmas.Bool.{eqb-false, not-true, lt-leb}
 use Rattle.lists.specs.Lists.{none, front, known}
 use Rattle.lists.specs.Laws.{never, by_test}
 use Rattle.lists.specs.Tells.{Tells, tells_yes, tells_no}
@@ -133,9 +133,15 @@ nobody_known : (x : ℕ) (r : Bool) → is_some (known x) ≡ not r → r ≡ eq
 nobody_known x r e = grind arith
 
 module _ (y x : ℕ) (b w l : List ℕ) where
+  pub desk_last : last_number < y → false ≡ desk_test (model_of y x b w l)
+  desk_last h = rw (lt-leb y last_number h)
+
   module _ (low : y ≤ last_number) where
-    pub desk_idle : Tidy places line_count l → x ≡ none → {o : Option ℕ} → o ≡ known (front (line_of places l ready)) → {r : Bool} → is_some o ≡ not r → r ≡ desk_test (model_of y x b w l)
-    desk_idle t z {o} e {r} n =
+    pub desk_idle : Tidy places line_count l → x ≡ none → (r : ℕ) → r ≡ front (line_of places l ready) → eqb r none ≡ desk_test (model_of y x b w l)
+    desk_idle t z r e = rw (le-leb y last_number low, eq-eqb x none z, line_at y x b w l ready (omega arith), e) (nil_front (line_of places l ready) (no_place t (omega arith) none ready (omega arith) (omega arith)))
+
+    pub desk_nobody : Tidy places line_count l → x ≡ none → {o : Option ℕ} → o ≡ known (front (line_of places l ready)) → {r : Bool} → is_some o ≡ not r → r ≡ desk_test (model_of y x b w l)
+    desk_nobody t z {o} e {r} n =
         rw (le-leb y last_number low, eq-eqb x none z, line_at y x b w l ready (omega arith))
         (nobody_known _ r (rw e at n) ∙ nil_front (line_of places l ready) (no_place t (omega arith) none ready (omega arith) (omega arith)))
 

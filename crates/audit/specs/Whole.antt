@@ -1,9 +1,9 @@
 -- The test as a whole: what its parts have told, put together.
-use Rattle.std.specs.Prelude.{ℕ, ◌*◌, ◌^◌, ◌<◌, ◌≡◌, List, [], Bool, true, false, length, get_or, eqb}
+use Rattle.std.specs.Prelude.{ℕ, ◌*◌, ◌^◌, ◌<◌, ◌≡◌, List, [], Bool, true, false, ◌&&◌, length, get_or, eqb}
 use Rattle.std.proofs.Common.{sym, ap, ◌∙◌, arith, eqb-true, eq-eqb}
 use Rattle.std.proofs.Math.Decide.{dec_lt}
 use Rattle.lists.specs.Lists.{bit}
-use Rattle.lists.specs.Laws.{never}
+use Rattle.lists.specs.Laws.{never, and_left, and_right}
 use Rattle.lists.specs.Counts.{distinct_count, among_none}
 use Rattle.lists.specs.Tables.{length_tab}
 use Rattle.lists.specs.Tells.{Tells}
@@ -19,7 +19,7 @@ use Rattle.table.specs.Rows.{thread_at, thread_past, line_at, line_past}
 use Rattle.table.specs.declared.Desk.{Desk}
 use Rattle.audit.specs.Tests.{place_test, desk_test, Homes}
 use Rattle.audit.specs.Judge.{judged}
-use Rattle.audit.specs.Passes.{passes}
+use Rattle.audit.specs.Passes.{passes, seated}
 use Rattle.audit.specs.Loops.{Indexed, Twice, indexed, twice_not}
 use Rattle.audit.specs.Rings.{Rises, Ring, ends_above, ring_not}
 
@@ -74,13 +74,39 @@ consists strict d {b} {w} {l} {at} k s e fit =
     s.tests e (λ S low p h. ends_above d.last.0 d.running.0 w l s.index S low (s.ends p h))
 
 module _ {strict : Bool} {d : Desk} {b w l : List ℕ} where
+  pub not_tidy : (Tidy places line_count l → ⊥) → StandsBy strict d b w l → ⊥
+  not_tidy n s = n s.whole.lines
+
   pub not_members : {at : List ℕ} → Lines.Whereabouts places line_count l at → Strangers strict d.running.0 b w at → StandsBy strict d b w l → ⊥
   not_members k n s = n.never d.last.0 l (found d.last.0 d.running.0 b w k) s.consistent
 
-  -- the last test: the filled set. The sizes are those of the types
-  pub answer : {at : List ℕ} (f : ℕ) → length b ≡ byte_rows * places → length w ≡ word_rows * places → Lines.Whereabouts places line_count l at → Members strict d.running.0 b w at → desk_test (shown d b w l) ≡ true → ((i : ℕ) → get_or w i 0 < 2 ^ 32)
+  pub not_seated : desk_test (shown d b w l) ≡ false → StandsBy strict d b w l → ⊥
+  not_seated e s = never (seated (shown d b w l) (old_of strict s.consistent)) e
+
+  -- the last test: the filled set, and the sizes
+  pub answer : {at : List ℕ} (f x y : ℕ) → Lines.Whereabouts places line_count l at → Members strict d.running.0 b w at → desk_test (shown d b w l) ≡ true → ((i : ℕ) → get_or w i 0 < 2 ^ 32)
+      → Filled f b → x ≡ length b → y ≡ length w
+      → Tells (eqb f d.filled && (eqb x (byte_rows * places) && eqb y (word_rows * places))) (StandsBy strict d b w l) (StandsBy strict d b w l → ⊥)
+  answer f x y k s e fit z ex ey = record {
+    yes = λ t.
+        let t₁ = and_right (eqb f d.filled) _ t in
+        record {
+          whole = record {
+            blocks = sym ex ∙ eqb-true _ _ (and_left (eqb x (byte_rows * places)) _ t₁);
+            words = sym ey ∙ eqb-true _ _ (and_right (eqb x (byte_rows * places)) _ t₁);
+            lines = k.tidy;
+          };
+          filled = sym (eqb-true _ _ (and_left (eqb f d.filled) _ t)) ∙ z;
+          consistent = consists strict d k s e fit;
+        };
+    no = λ t c.
+        never (rw (eq-eqb f d.filled (z ∙ sym c.filled), eq-eqb x (byte_rows * places) (ex ∙ c.whole.blocks), eq-eqb y (word_rows * places) (ey ∙ c.whole.words))) t;
+  }
+
+  -- where the sizes are those of the types, the filled set alone
+  pub filled_answer : {at : List ℕ} (f : ℕ) → length b ≡ byte_rows * places → length w ≡ word_rows * places → Lines.Whereabouts places line_count l at → Members strict d.running.0 b w at → desk_test (shown d b w l) ≡ true → ((i : ℕ) → get_or w i 0 < 2 ^ 32)
       → Filled f b → Tells (eqb f d.filled) (StandsBy strict d b w l) (StandsBy strict d b w l → ⊥)
-  answer f eb ew k s e fit z = record {
+  filled_answer f eb ew k s e fit z = record {
     yes = λ t. record { whole = record { blocks = eb; words = ew; lines = k.tidy }; filled = sym (eqb-true _ _ t) ∙ z; consistent = consists strict d k s e fit };
     no = λ t c. never (eq-eqb f d.filled (z ∙ sym c.filled)) t;
   }

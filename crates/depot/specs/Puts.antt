@@ -1,9 +1,9 @@
 -- What the writer's small functions come to, on plain values: a text copied to a position, a digit, a number.
-use Rattle.std.specs.Prelude.{◌≡◌, refl, List, [], ◌∷◌, ◌++◌, Bool, true, false, cond, ◌||◌, ℕ, zero, suc, ◌+◌, ◌-◌, ◌/◌, ◌%◌, ◌^◌, ◌≤◌, ◌<◌, length, take, drop, eqb}
-use Rattle.std.proofs.Common.{sym, ap, subst, ◌∙◌, append-nil, arith, length-append, length-drop, drop_of_length-le, take_all, drop-drop, eqb-true}
+use Rattle.std.specs.Prelude.{◌≡◌, refl, List, [], ◌∷◌, ◌++◌, Bool, true, false, cond, ◌||◌, ℕ, zero, suc, ◌+◌, ◌-◌, ◌/◌, ◌%◌, ◌^◌, ◌≤◌, ◌<◌, length, take, drop, set, eqb}
+use Rattle.std.proofs.Common.{sym, ap, subst, ◌∙◌, append-nil, arith, length-append, length-drop, drop_of_length-le, take_all, drop-drop, ne_eqb, eqb-true}
 use Rattle.std.proofs.Math.Seq.{take-length}
 use borrow.Rule.Slice.PartMut.{mid_of, put_mid}
-use Rattle.lists.specs.Laid.{Wrote, laid_length, wrote_then}
+use Rattle.lists.specs.Laid.{Wrote, laid_none, laid_length, laid_one, wrote_then}
 use Rattle.lists.specs.Lists.{none, tally}
 use Rattle.lists.specs.Laws.{by_test}
 use Rattle.filled.specs.Filled.{width, word_of}
@@ -13,7 +13,7 @@ use Rattle.rules.specs.Values.{nobody}
 use Rattle.rules.specs.Model.{Place, places, Empty, Running, Ready, Sending, Awaiting, Receiving, Waiting, Thread, Model, thread, live}
 use Rattle.rules.specs.declared.Choice.{Choice}
 use Rattle.depot.specs.Text.{ascii, newline, Line, behind, line_bytes, text_bytes}
-use Rattle.depot.specs.Report.{how_many, count_line, standing_words, thread_line, is_load, loads, loads_line, load_line, place_lines, first_line, next_lines, sheet_lines}
+use Rattle.depot.specs.Report.{how_many, count_line, standing_words, thread_line, is_load, loads, loads_line, load_line, next_line, place_lines, first_line, next_lines, sheet_lines, stop_word}
 use Rattle.depot.specs.Writing.{crew_of, standing_bytes, received_bytes, entry_text, place_text}
 use Rattle.depot.specs.Lengths.{text_append}
 use Rattle.depot.specs.declared.Sheet.{Sheet}
@@ -30,6 +30,10 @@ copied s xs d at n h e f =
     let z : drop (length s - at) (drop at s) ≡ [] = drop_of_length-le (drop at s) {i = length s - at} (omega arith) in
     let g : d ≡ xs ++ drop (at + length xs) s = f ∙ rw (m, take-length xs, drop-drop (length xs) at s) refl in
     record { next = ap (λ (j : ℕ). at + j) e; bytes = rw (z, append-nil, g) refl }
+
+-- One digit.
+pub digit_put : (s : List ℕ) (at d : ℕ) → at < length s → Wrote s at (digit d ∷ []) (set s at (48 + d)) (at + 1)
+digit_put s at d h = record { next = refl; bytes = laid_one s at (48 + d) h }
 
 -- A number of one digit, ..
 pub small_room : (n at l : ℕ) → n < 10 → at + length (decimal n) ≤ l → at < l
@@ -77,6 +81,15 @@ room_rest {s} {xs} {t} {at} {v} ys w h =
 pub both_put : {s xs t ys u : List ℕ} {at v r : ℕ} → Wrote s at xs t v → Wrote t v ys u r → at + length (xs ++ ys) ≤ length s → Wrote s at (xs ++ ys) u r
 both_put {xs = xs} {ys = ys} w x h = let k = length-append xs ys in wrote_then w x (omega arith)
 
+-- ---- where none of the other cases is
+pub by_device : (x n : ℕ) → (((((Unit {0} × (x ≡ Running → ⊥)) × (x ≡ Ready → ⊥)) × (x ≡ Sending → ⊥)) × (x ≡ Awaiting → ⊥)) × (x ≡ Receiving → ⊥)) × (x ≡ Waiting → ⊥)
+    → standing_bytes x n ≡ behind (ascii "device" ∷ decimal n ∷ [])
+by_device x n r =
+    rw (ne_eqb x Running r.0.0.0.0.0.1, ne_eqb x Ready r.0.0.0.0.1, ne_eqb x Sending r.0.0.0.1, ne_eqb x Awaiting r.0.0.1, ne_eqb x Receiving r.0.1, ne_eqb x Waiting r.1) refl
+
+pub by_end : (c : ℕ) → (Unit {0} × (c ≡ 12 → ⊥)) × (c ≡ 13 → ⊥) → stop_word c ≡ ascii "whole"
+by_end c r = rw (ne_eqb c 12 r.0.1, ne_eqb c 13 r.1) refl
+
 -- ---- the lines, in the parts in which they are written
 -- a buffer has room for bytes that are the same, and holds them
 pub room_by : (s : List ℕ) (at : ℕ) {xs ys : List ℕ} → xs ≡ ys → at + length xs ≤ length s → at + length ys ≤ length s
@@ -84,6 +97,9 @@ room_by s at e h = let i = ap length e in omega arith
 
 pub put_by : {s xs ys t : List ℕ} {at r : ℕ} → xs ≡ ys → Wrote s at xs t r → Wrote s at ys t r
 put_by {s} {t = t} {at = at} {r = r} e w = subst (λ (z : List ℕ). Wrote s at z t r) e w
+
+pub nothing_put : (s : List ℕ) (at : ℕ) → Wrote s at [] s at
+nothing_put s at = record { next = omega arith; bytes = sym (laid_none s at) }
 
 -- what comes behind a test comes behind each of its cases
 by_case : (b : Bool) (xs ys : Line) {us vs : List ℕ} → behind xs ≡ us → behind ys ≡ vs → behind (cond b xs ys) ≡ cond b us vs
@@ -148,6 +164,13 @@ loads_bytes m {s} {r} e f =
     (λ p a b. let x = eqb-true (thread m p).standing Sending a in let y = eqb-true (thread m p).standing Awaiting b in omega arith) in
     let j : loads m ≡ s + r = omega arith in
     rw j refl
+
+-- ---- the choice, if a sheet has it
+pub next_text : {s : Sheet} (x : Choice) → s ≡ Report → text_bytes (next_lines s x) ≡ line_bytes (next_line x)
+next_text x e = rw e (append-nil (line_bytes (next_line x)))
+
+pub no_next : {s : Sheet} (out : List ℕ) (at : ℕ) (x : Choice) → s ≡ Pay → Wrote out at (text_bytes (next_lines s x)) out at
+no_next out at x e = rw e (nothing_put out at)
 
 -- ---- all of a sheet but its last line
 pub sheet_bytes : (s : Sheet) (m : Model) (x : Choice)

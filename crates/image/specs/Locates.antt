@@ -1,6 +1,6 @@
 -- What locating promises, of any bytes and any number: a code, and the offset and the length of the thread's body in the image. The code is load's own where
 -- load refuses the bytes, and 4 where the number is not live in the image; then offset and length are 0. That this settles all three is shown in Locating.antt.
-use Rattle.std.specs.Prelude.{◌≡◌, ◌≢◌, List, ◌∷◌, ◌++◌, true, ℕ, ◌+◌, ◌<◌, length, get_or}
+use Rattle.std.specs.Prelude.{◌≡◌, ◌≢◌, List, ◌∷◌, ◌++◌, true, ℕ, ◌+◌, ◌≤◌, ◌<◌, length, get_or}
 use Rattle.rules.specs.Model.{Place, Model, thread, lives_at}
 use Rattle.saving.specs.Format.{live_places, body_of, bodies, first_body}
 use Rattle.saving.specs.declared.format.Row.{Row}
@@ -42,3 +42,9 @@ pub record FirstEntry (row : Row) (s : List ℕ) (n i : ℕ) : Type 0 where
   pub low : i < get_or s 3 0
   pub before : (k : ℕ) → k < i → get_or s (entry_at row k + 1) 0 ≢ n
   pub here : get_or s (entry_at row i + 1) 0 ≡ n
+
+-- r is the first entry with the number n, or the live count
+pub record EntryFor (row : Row) (s : List ℕ) (n r : ℕ) : Type 0 where
+  pub upto : r ≤ get_or s 3 0
+  pub before : (k : ℕ) → k < r → get_or s (entry_at row k + 1) 0 ≢ n
+  pub here : r < get_or s 3 0 → get_or s (entry_at row r + 1) 0 ≡ n

@@ -15,8 +15,8 @@ use Rattle.loading.specs.Finds.{live_is, row_is, body, body_in_lem, inbox_length
 use Rattle.loading.specs.Entry.{live_low, split, p_is, n_is, o_is, body_at}
 use Rattle.loading.specs.Loads.{row_at, ImageAs, Loads}
 use Rattle.loading.proofs.Injective.{entry_of, image_one}
-use Rattle.loading.proofs.Accepts.{accepted_of, refuses_not, refuses_one}
-use Rattle.image.specs.Locates.{Spotted, Absent, Locates, spotted, missing, unread, NoEntry, FirstEntry}
+use Rattle.loading.proofs.Accepts.{accepted_of, refuses_of, refuses_not, refuses_one}
+use Rattle.image.specs.Locates.{Spotted, Absent, Locates, spotted, missing, unread, NoEntry, FirstEntry, EntryFor}
 use Rattle.loading.specs.declared.Loaded.{Loaded}
 
 -- ---- the three ends
@@ -47,8 +47,8 @@ module _ {s : List ℕ} {r : Loaded} (L : Loads s r) where
     I : ImageAs row m s
     I = loaded_image L z er
 
-    pub locates_missing : {n : ℕ} → NoEntry row s n → Locates s n 4 0 0
-    locates_missing {n} k =
+    pub missing_of : {n : ℕ} → NoEntry row s n → Locates s n 4 0 0
+    missing_of {n} k =
         let a : Absent s n = record {
           m = m;
           image = (row, I);
@@ -59,8 +59,8 @@ module _ {s : List ℕ} {r : Loaded} (L : Loads s r) where
         } in
         missing a refl refl refl
 
-    pub locates_spotted : {n i : ℕ} → FirstEntry row s n i → {c a l : ℕ} → c ≡ 0 → a ≡ body_at row s i → l ≡ body_length row + get_or s (a + inbox_length_at) 0 → Locates s n c a l
-    locates_spotted {n} {i} k {c} {a} {l} ec ea el =
+    pub spotted_of : {n i : ℕ} → FirstEntry row s n i → {c a l : ℕ} → c ≡ 0 → a ≡ body_at row s i → l ≡ body_length row + get_or s (a + inbox_length_at) 0 → Locates s n c a l
+    spotted_of {n} {i} k {c} {a} {l} ec ea el =
         let g : i < live m = let v = live_is I in let h = k.low in omega arith in
         let f : Spotted s n a l = record {
           row = row;
@@ -75,6 +75,18 @@ module _ {s : List ℕ} {r : Loaded} (L : Loads s r) where
           long = el ∙ ap (λ (x : ℕ). body_length row + get_or s (x + inbox_length_at) 0) ea ∙ body_size I g;
         } in
         spotted f ec
+
+-- the three ends again, where one number tells the entry, or that none has the number: the live count
+module _ {s : List ℕ} {n : ℕ} {r : Loaded} (L : Loads s r) where
+  pub locates_unread : r.code ≢ 0 → Locates s n r.code 0 0
+  locates_unread k = unread (refuses_of L k) refl refl
+
+  module _ (z : r.code ≡ 0) {row : Row} (er : row ≡ row_at s) {i : ℕ} (k : EntryFor row s n i) where
+    pub locates_missing : get_or s 3 0 ≤ i → Locates s n 4 0 0
+    locates_missing h = missing_of L z er (λ j l. k.before j (omega arith))
+
+    pub locates_spotted : i < get_or s 3 0 → {c a l : ℕ} → c ≡ 0 → a ≡ body_at row s i → l ≡ body_length row + get_or s (a + inbox_length_at) 0 → Locates s n c a l
+    locates_spotted h ec ea el = spotted_of L z er (record { low = h; before = k.before; here = k.here h }) ec ea el
 
 -- ---- the body stands there
 

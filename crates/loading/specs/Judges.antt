@@ -1,6 +1,6 @@
 -- Judging a candidate: why bytes are refused, and why they are accepted. Assumes nothing.
 use Rattle.std.specs.Prelude.{◌≡◌, refl, ◌≢◌, List, [], Bool, true, false, ℕ, zero, suc, ◌+◌, ◌-◌, ◌≤◌, ◌<◌, eqb, ltb, length, take, drop, get_or}
-use Rattle.std.proofs.Common.{sym, ap, subst, ◌∙◌, arith, take_at, eq-eqb, ne_eqb, eqb-true, lt-ltb, le-ltb, ltb-true, ltb-false}
+use Rattle.std.proofs.Common.{sym, ap, subst, ◌∙◌, add-one, arith, length-append, take-suc, take_all, take_at, length-take-le, get_or-take, eq-eqb, ne_eqb, eqb-true, lt-ltb, le-ltb, ltb-true, ltb-false}
 use Rattle.std.proofs.lemmas.Bool.{eqb-false}
 use Rattle.lists.specs.Sizes.{queue_count}
 use Rattle.lists.specs.Lists.{none, front}
@@ -76,11 +76,33 @@ head_image {strict} {m} {s} (row, I) =
 pub old_consists : (strict : Bool) {t : State} → ConsistsBy strict t → ConsistsBy false t
 old_consists strict k = record { whole = k.whole; filled = k.filled; consistent = old_of strict k.consistent }
 
+-- ---- two lists of bytes, compared: a, and the first n of c
+
+module _ (a c : List ℕ) (n : ℕ) (room : n ≤ length c) where
+  pub equal_size : (length a ≡ n → ⊥) → take n c ≡ a → ⊥
+  equal_size k e = k (sym (ap length e) ∙ length-take-le n c room)
+
+  module _ (i : ℕ) (h : i < n) where
+    pub equal_not : (get_or a i 0 ≡ get_or c i 0 → ⊥) → take n c ≡ a → ⊥
+    equal_not k e = k (sym (ap (λ (t : List ℕ). get_or t i 0) e) ∙ get_or-take n c i 0 h)
+
+    pub equal_more : n ≤ length a → take i a ≡ take i c → get_or a i 0 ≡ get_or c i 0 → take (i + 1) a ≡ take (i + 1) c
+    equal_more v e z = rw (add-one, take-suc a i 0 (omega arith), take-suc c i 0 (omega arith), e, z)
+
+  pub equal_all : length a ≡ n → take n a ≡ take n c → take n c ≡ a
+  equal_all v e = sym e ∙ take_all n a (omega arith)
+
 -- ---- what was written again
 
 module _ {row : Row} {m : Model} {s t : List ℕ} {r : ℕ} (W : Written row m s t r) where
   pub written_take : take r t ≡ encode_as row m
   written_take = rw W.bytes (take_at (encode_as row m) (drop r s) r (sym W.size))
+
+  pub written_room : r ≤ length t
+  written_room =
+      let z = W.size in
+      let v = length-append (encode_as row m) (drop r s) in
+      rw W.bytes (omega arith)
 
   pub written_tells : {b : Bool} {i : List ℕ} → Tells b (take r t ≡ i) (take r t ≡ i → ⊥) → Tells b (encode_as row m ≡ i) (encode_as row m ≡ i → ⊥)
   written_tells k = record { yes = λ e. sym written_take ∙ k.yes e; no = λ e z. k.no e (written_take ∙ z) }
@@ -90,6 +112,15 @@ module _ {row : Row} {m : Model} {s t : List ℕ} {r : ℕ} (W : Written row m s
 -- the lines from k to n are empty
 abbrev pub Bare : List ℕ → ℕ → ℕ → Type 0
 Bare l k n = (q : ℕ) → k ≤ q → q < n → line_of places l q ≡ []
+
+pub bare_more : {l : List ℕ} (k n : ℕ) {p : ℕ} → Tidy places line_count l → n < line_count → Bare l k n → p ≡ front (line_of places l n) → p ≡ none → Bare l k (n + 1)
+bare_more {l} k n t h f e z q i j =
+    by_test (eqb q n)
+    (λ u. let y = eqb-true q n u in rw y (front_none (line_of places l n) (no_place t (omega arith) none n (omega arith) (omega arith)) (sym e ∙ z)))
+    (λ u. let y = eqb-false q n u in f q i (omega (arith, y)))
+
+pub bare_not : (l : List ℕ) {k i n p : ℕ} → k ≤ i → i < n → p ≡ front (line_of places l i) → (p ≡ none → ⊥) → Bare l k n → ⊥
+bare_not l {i = i} g h e z f = z (e ∙ ap front (f i g h))
 
 -- the test of one
 abbrev pub is_bare : List ℕ → ℕ → Bool

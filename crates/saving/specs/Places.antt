@@ -1,6 +1,7 @@
 -- The writer's two loops over the places: first the contents, then the bodies. What is left to write is the same part, of the places that are left.
 use Rattle.std.specs.Prelude.{ℕ, ◌+◌, ◌≤◌, ◌<◌, ◌≡◌, ◌++◌, length}
-use Rattle.std.proofs.Common.{ap, ◌∙◌, arith, length-append}
+use Rattle.std.proofs.Common.{sym, ap, ◌∙◌, arith, length-append}
+use Rattle.lists.specs.Laid.{laid_length}
 use Rattle.lines.specs.Lines.{Tidy}
 use Rattle.rules.specs.Model.{Place, places, line_count, Model}
 use Rattle.table.specs.declared.Arrays.{Arrays}
@@ -32,6 +33,9 @@ module _ {row : Row} {m : Model} {v w : Writer} {p : Place} (g : Embodies row m 
 
     pub bodies_more : {u : Writer} → Puts w (bodies row m (here m p)) u → Embodies row m v u (p + 1)
     bodies_more q = record { putting = putting_more split q }
+
+  pub bodies_length_is : Room v (bodies row m (live_places m)) → length w.out.now ≡ length v.out.now
+  bodies_length_is h = sym g.putting.going.whole ∙ laid_length v.out.now v.at (bodies row m (live_places m)) h
 
   pub bodies_end : places ≤ p → Puts v (bodies row m (live_places m)) w
   bodies_end h = putting_end (putting_by g.putting (ap (bodies row m) (lives_end m p h)))
@@ -66,6 +70,9 @@ module _ {row : Row} {m : Model} {v : Writer} {o : ℕ} {w : Writer} {u : ℕ} {
 
     pub contents_low : o + length (bodies row m (live_places m)) ≤ longest_image → u + length (bodies row m (here m p)) ≤ longest_image
     contents_low i = let a = size in let c = g.body in omega arith
+
+  pub contents_length_is : Room v (contents row m o (live_places m)) → length w.out.now ≡ length v.out.now
+  contents_length_is h = sym g.putting.going.whole ∙ laid_length v.out.now v.at (contents row m o (live_places m)) h
 
   pub contents_end : places ≤ p → Puts v (contents row m o (live_places m)) w
   contents_end h = putting_end (putting_by g.putting (ap (contents row m u) (lives_end m p h)))

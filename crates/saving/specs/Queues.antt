@@ -5,6 +5,7 @@ use Rattle.lists.specs.Sizes.{queue_count}
 use Rattle.lists.specs.Lists.{up_from}
 use Rattle.lists.specs.Laws.{by_test}
 use Rattle.lists.specs.Search.{up_from_step, up_from_length}
+use Rattle.lists.specs.Laid.{laid_length}
 use Rattle.rules.specs.Model.{Place, places, line_count, inbox}
 use Rattle.saving.specs.Format.{queues_in, sizes, joined}
 use Rattle.saving.specs.Puts.{Room, Puts, Putting, putting_start, putting_by, putting_room, putting_more, putting_end}
@@ -111,6 +112,9 @@ module _ {g : List ℕ → List ℕ} {row : Row} {v w : Writer} {q : ℕ} (k : Q
 
     pub queueing_more : {u : Writer} → Puts w ys u → Queueing g row v u (q + 1)
     queueing_more p = record { putting = putting_more split p }
+
+  pub queueing_length : Room v (g (queues_in row)) → length w.out.now ≡ length v.out.now
+  queueing_length h = sym k.putting.going.whole ∙ laid_length v.out.now v.at (g (queues_in row)) h
 
   pub queueing_end : g [] ≡ [] → row.queues ≤ q → Puts v (g (queues_in row)) w
   queueing_end e h = putting_end (putting_by k.putting (ap g (queues_end row q h) ∙ e))

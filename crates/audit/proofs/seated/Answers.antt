@@ -1,6 +1,6 @@
 -- `seated` meets its contract: the ways are those of the definition.
 use Rattle.rules.specs.Known.{place_none, place_some}
-use Rattle.audit.specs.Loops.{desk_idle, desk_high, desk_busy}
+use Rattle.audit.specs.Loops.{desk_nobody, desk_high, desk_busy}
 use native.Mathlib.Omega.{arith}
 use Rattle.audit.proofs.seated.Goals as goal
 
@@ -8,7 +8,7 @@ pub returns-in_default : goal.returns-in_default
 returns-in_default c =
     λ w.
     let a = c.args in
-    desk_idle a.d.last.0 a.d.running.0 a.a.now.table.blocks w a.a.now.lines (omega (arith, c.if-d-gt-LAST_NUMBER.false)) c.requires
+    desk_nobody a.d.last.0 a.d.running.0 a.a.now.table.blocks w a.a.now.lines (omega (arith, c.if-d-gt-LAST_NUMBER.false)) c.requires
     (place_none c.runner.ensures c.in_default.is) c.first.ensures c.is_none.ensures
 
 pub returns-then-p-ge-LIMIT : goal.returns-then-p-ge-LIMIT
