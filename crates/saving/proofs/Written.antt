@@ -135,9 +135,6 @@ module _ (row : Row) (few : row.queues ≤ queue_count) {d : Desk} {a : Arrays} 
       pub write_low : e ≤ longest_image
       write_low = let i = p.next in let c = whole_low in omega arith
 
-      pub write_head : head_length row ≤ length t
-      write_head = let i = whole_low in let c = ap length p.bytes ∙ laid_length s (head_length row) (tail_in row a) (omega arith) in omega arith
-
       head_is : head_of row d.last.0 d.running.0 n (lengths_in row a.lines) e ≡ head row (shown_in d a)
       head_is = rw (count_is, ← lengths_are row few a, p.next, tail_same d a row)
 

@@ -9,4 +9,3 @@ pub mod Entries
 pub mod Places
 pub mod Written
 pub mod Save
-pub mod Saving

@@ -1,12 +1,12 @@
 -- A line is walked, place by place, and written.
-use Rattle.std.specs.Prelude.{◌≡◌, refl, List, [], ◌∷◌, Option, Some, ℕ, ◌+◌, ◌≤◌, ◌<◌, length, set}
-use Rattle.std.proofs.Common.{sym, ◌∙◌, arith}
-use Rattle.lists.specs.Lists.{none, known, KnownBy, front}
+use Rattle.std.specs.Prelude.{◌≡◌, refl, List, [], ◌∷◌, Option, Some, ℕ, ◌+◌, ◌<◌, length, set}
+use Rattle.std.proofs.Common.{◌∙◌, arith}
+use Rattle.lists.specs.Lists.{none, KnownBy}
 use Rattle.lists.specs.Known.{known_some, known_of}
 use Rattle.lists.specs.Sizes.{places}
-use Rattle.lists.specs.Laid.{laid, Wrote, laid_length, laid_one, Going, going_start, going_more, going_end}
+use Rattle.lists.specs.Laid.{laid, Wrote, laid_one, Going, going_more, going_end}
 use Rattle.lines.specs.Lines.{line_of}
-use Rattle.lines.specs.Passes.{left, Reaches, Passes, left_all, walk_start, walk_some}
+use Rattle.lines.specs.Passes.{left, Reaches, Passes, walk_some}
 
 -- a walk that goes on is at a place, of which all holds that was known of it
 pub walk_at : {P : ℕ → Type 0} {o : Option ℕ} {p : ℕ} → KnownBy P o → o ≡ Some p → P p × (p ≡ none → ⊥)
@@ -16,11 +16,6 @@ walk_at {P} v f = let z = known_some v.1 f in (known_of v.1 P f v.2, λ y. z.1 (
 pub record Lining (s : List ℕ) (at : ℕ) (l : List ℕ) (q : ℕ) (t : List ℕ) (r p : ℕ) : Type 0 where
   pub reaches : Reaches places l q p
   pub going : Going (laid s at (line_of places l q)) (at + length (line_of places l q)) t r (left places l q p)
-
-pub lining_start : (s : List ℕ) (at : ℕ) (l : List ℕ) (q : ℕ) {o : Option ℕ} → o ≡ known (front (line_of places l q)) → at + length (line_of places l q) ≤ length s → KnownBy (Lining s at l q s at) o
-lining_start s at l q e h =
-    let p = front (line_of places l q) in
-    (p, e, record { reaches = walk_start places l q p refl; going = rw (left_all places l q p refl) (going_start s at (line_of places l q) h) })
 
 module _ {s : List ℕ} {at : ℕ} {l : List ℕ} {q : ℕ} {t : List ℕ} {r p : ℕ} (k : Lining s at l q t r p) where
   pub lining_room : (p ≡ none → ⊥) → r < length t
@@ -35,9 +30,6 @@ module _ {s : List ℕ} {at : ℕ} {l : List ℕ} {q : ℕ} {t : List ℕ} {r p 
       going = going_more {ys = p ∷ []} (rw n.left_is at k.going) (record { next = refl; bytes = laid_one t r p (lining_room f) });
     },
   )
-
-  pub lining_length : at + length (line_of places l q) ≤ length s → length t ≡ length s
-  lining_length h = sym k.going.whole ∙ laid_length s at (line_of places l q) h
 
   pub lining_end : left places l q p ≡ [] → Wrote s at (line_of places l q) t r
   lining_end e = going_end (rw e at k.going)

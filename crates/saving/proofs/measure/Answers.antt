@@ -1,13 +1,9 @@
 -- `measure` meets its contract. The loop's invariant: what was counted and what is left is the line.
 use native.Mathlib.Omega.{arith}
-use mathlib.Core.Path.{refl}
 use Rattle.lists.specs.Known.{known_none}
-use Rattle.lines.specs.Passes.{line_short, walk_end, walk_place, walk_on, walk_less, count_start, count_room, count_more, count_end}
+use Rattle.lines.specs.Passes.{line_short, walk_end, walk_place, walk_on, walk_less, count_room, count_more, count_end}
 use Rattle.saving.specs.Lining.{walk_at}
 use Rattle.saving.proofs.measure.Goals as goal
-
-pub loop-next-init : goal.loop-next-init
-loop-next-init c = (_, c.first-next.ensures, count_start _ _ _ _ refl)
 
 pub overflow_add-n : goal.overflow_add-n
 overflow_add-n c =

@@ -1,22 +1,9 @@
 -- `put_line` meets its contract. The loop's invariant: what is left of the line is left to write.
-use borrow.Author.Rules.{rules}
 use native.Mathlib.Omega.{arith}
 use Rattle.lists.specs.Known.{known_none}
 use Rattle.lines.specs.Passes.{walk_end, walk_place, walk_on, walk_less}
-use Rattle.saving.specs.Lining.{walk_at, lining_start, lining_room, lining_more, lining_length, lining_end}
+use Rattle.saving.specs.Lining.{walk_at, lining_more, lining_end}
 use Rattle.saving.proofs.put_line.Goals as goal
-
-pub loop-next-init : goal.loop-next-init
-loop-next-init c = lining_start _ _ _ _ c.first-next.ensures c.requires.2
-
-pub bounds-out-end : goal.bounds-out-end
-bounds-out-end c = let g = walk_at c.loop-next.invariant c.in-Some.is in lining_room g.0 g.1
-
-pub overflow_add-end : goal.overflow_add-end
-overflow_add-end c =
-    let g = walk_at c.loop-next.invariant c.in-Some.is in
-    let b = lining_room g.0 g.1 in
-    search rules
 
 pub after-next-requires : goal.after-next-requires
 after-next-requires c =
@@ -32,9 +19,6 @@ pub loop-next-preserved : goal.loop-next-preserved
 loop-next-preserved c =
     let g = walk_at c.loop-next.invariant c.in-Some.is in
     lining_more g.0 g.1 (walk_on c.requires.0 (omega arith) c.requires.1 g.0.reaches g.1 c.after-next.ensures)
-
-pub shape_of-out : goal.shape_of-out
-shape_of-out c = lining_length c.loop-next.invariant.2 c.requires.2
 
 pub returns : goal.returns
 returns c =
