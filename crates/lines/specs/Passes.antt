@@ -63,11 +63,14 @@ module _ {P N : ℕ} {l : List ℕ} {q : ℕ} (k : Tidy P N l) (small : P ≤ no
       walk_on t =
           let xs = line_of P l q in
           let r = next_in p xs in
-          let on : left P l q r ≡ rest (left P l q p) = from_next p xs (once P N small l k q h) (no_place k small none q h small) walk_in in
-          (r, t q h walk_in, record {
-            left_is = walk_here P l q p at f ∙ rw on;
-            reaches = next_front p xs ∙ ap front (sym on);
-          })
+          let on : left P l q r ≡ rest (left P l q p) = from_next p xs (once P N small l k q h) (no_place k small none q h small) walk_in in (
+            r,
+            t q h walk_in,
+            record {
+              left_is = walk_here P l q p at f ∙ rw on;
+              reaches = next_front p xs ∙ ap front (sym on);
+            },
+          )
 
       pub walk_less : {o : Option ℕ} → Next P N l p o → length (ahead P l q o) < length (left P l q p)
       walk_less t =
