@@ -1,12 +1,13 @@
 -- What the loops of the test keep, and what they have found where they stop.
-use Rattle.std.specs.Prelude.{ℕ, suc, ◌+◌, ◌≤◌, ◌<◌, ◌≡◌, refl, ◌≢◌, List, Option, is_some, Bool, true, false, not, ◌&&◌, length, get_or, set, replicate, eqb}
+use Rattle.std.specs.Prelude.{ℕ, zero, suc, ◌+◌, ◌≤◌, ◌<◌, ◌≡◌, refl, ◌≢◌, List, Option, is_some, Bool, true, false, not, ◌&&◌, length, get_or, set, replicate, eqb}
+use Rattle.std.specs.List.{list_all, range_with_len}
 use Rattle.std.proofs.Common.{sym, ap, ◌∙◌, add-one, arith, length-set, get_or-set_same, get_or-set_other, eq-eqb, ne_eqb, le-leb}
 use Rattle.std.proofs.Math.Decide.{ℕ_discrete}
 use Rattle.std.proofs.lemmas.List.{length-replicate, get_or-replicate}
 use Rattle.std.proofs.lemmas.Bool.{eqb-false, not-true}
 use Rattle.lists.specs.Lists.{none, front, known}
-use Rattle.lists.specs.Laws.{never}
-use Rattle.lists.specs.Tells.{Tells}
+use Rattle.lists.specs.Laws.{never, by_test}
+use Rattle.lists.specs.Tells.{Tells, tells_yes, tells_no}
 use Rattle.lines.specs.Lines.{line_of, Tidy}
 use Rattle.lines.specs.Along.{no_place}
 use Rattle.rules.specs.Model.{places, line_count, last_number, Empty, Running, Thread, Model, thread, ready}
@@ -110,6 +111,20 @@ twice_not {b} y x w l t C =
 -- every place passes the test, or one does not
 abbrev pub AllPass : Bool → (ℕ → Bool) → Type 0
 AllPass r f = Tells r ((p : ℕ) → p < places → f p ≡ true) ((p : ℕ) × (p < places) × (f p ≡ false))
+
+all_tells : (f : ℕ → Bool) (k n : ℕ) → Tells (list_all f (range_with_len k n)) ((p : ℕ) → k ≤ p → p < k + n → f p ≡ true) ((p : ℕ) × (p < k + n) × (f p ≡ false))
+all_tells f k zero = tells_yes (λ p i j. absurd (omega arith))
+all_tells f k (suc n) =
+    let t = all_tells f (k + 1) n in
+    by_test (f k)
+    (λ u. rw u (record {
+      yes = λ e p i j. elim (ℕ_discrete p k) [ yes z ↦ rw z u | no d ↦ t.yes e p (omega arith) (omega arith) ];
+      no = λ e. let v = t.no e in (v.0, omega (arith, v.1), v.2);
+    }))
+    (λ u. rw u (tells_no (k, omega arith, u)))
+
+pub every_tells : (f : ℕ → Bool) {r : Bool} → r ≡ list_all f (range_with_len 0 places) → AllPass r f
+every_tells f e = rw e (record { yes = λ z p h. (all_tells f 0 places).yes z p (omega arith) h; no = (all_tells f 0 places).no })
 
 -- ---- the desk
 

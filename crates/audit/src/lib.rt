@@ -144,23 +144,35 @@ fn parented(who: &[u8; ENTRIES], t: Thread) -> bool
     (n == NOBODY) | (n <= LAST_NUMBER) & found
 }
 
-// Does the place p pass, with all that it has to do with others?
-fn place(
+// What a place is tested by, beside what it holds: the line of each place, the place of each number, and who runs. Where strict is false, by the old rules.
+#[derive(Clone, Copy)]
+struct Judge<'a> {
     strict: bool,
-    t: &Table,
-    at: &[u8; PLACES],
-    who: &[u8; ENTRIES],
+    at: &'a [u8; PLACES],
+    who: &'a [u8; ENTRIES],
     running: Place,
-    p: Place,
-) -> bool
-    requires { p.0 < places }
-    ensures { result ≡ place_test strict (model_of 0 running.0 t.now.blocks t.now.words []) at.now who.now p.0 }
-{
-    let held = t.read(p);
-    let r = Place(who[held.partner.0 as usize]);
-    let seated = at[p.0 as usize] == home(who, held);
-    let others = unheard(t, r, held) & (names_live(strict, r, held) & parented(who, held));
-    fits(held) & (runs_alone(running, p, held) & (seated & others))
+}
+
+impl<'a> Judge<'a> {
+    // Does the place p pass, with all that it has to do with others?
+    fn place(self, t: &Table, p: Place) -> bool
+        requires { p.0 < places }
+        ensures { result ≡ place_test self.entry.strict (model_of 0 self.entry.running.0 t.now.blocks t.now.words []) self.entry.at.now self.entry.who.now p.0 }
+    {
+        let held = t.read(p);
+        let r = Place(self.who[held.partner.0 as usize]);
+        let seated = self.at[p.0 as usize] == home(self.who, held);
+        let others = unheard(t, r, held)
+            & (names_live(self.strict, r, held) & parented(self.who, held));
+        fits(held) & (runs_alone(self.running, p, held) & (seated & others))
+    }
+
+    // Does every place pass?
+    fn every(self, t: &Table) -> bool
+        ensures { AllPass result (place_test self.entry.strict (model_of 0 self.entry.running.0 t.now.blocks t.now.words []) self.entry.at.now self.entry.who.now) }
+    {
+        (0..LIMIT).all(|p| self.place(t, Place(p)))
+    }
 }
 
 // ---- the index of numbers
@@ -232,18 +244,6 @@ fn ringless(t: &Table, who: &[u8; ENTRIES]) -> bool
 
 // ---- all places
 
-// Does every place pass?
-fn every(strict: bool, t: &Table, at: &[u8; PLACES], who: &[u8; ENTRIES], running: Place) -> bool
-    ensures { AllPass result (place_test strict (model_of 0 running.0 t.now.blocks t.now.words []) at.now who.now) }
-{
-    for p in 0..LIMIT {
-        if !place(strict, t, at, who, running, Place(p)) {
-            return false;
-        }
-    }
-    true
-}
-
 // The word of the places where a thread stands.
 pub fn filling(t: &Table) -> u64
     ensures { Filled result t.now.blocks }
@@ -284,7 +284,13 @@ fn members(strict: bool, t: &Table, at: &[u8; PLACES], running: Place) -> bool
     if !index(t, &mut who) {
         return false;
     }
-    if !every(strict, t, at, &who, running) {
+    let judge = Judge {
+        strict,
+        at,
+        who: &who,
+        running,
+    };
+    if !judge.every(t) {
         return false;
     }
     ringless(t, &who)

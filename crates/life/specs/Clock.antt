@@ -4,7 +4,7 @@ use Rattle.std.proofs.Common.{sym, ◌∙◌, arith, eq-eqb, ne_eqb, get_or-set_
 use Rattle.lists.specs.Lists.{none}
 use Rattle.lines.specs.Lines.{line_of, Loose}
 use Rattle.rules.specs.Values.{nobody, place_known}
-use Rattle.rules.specs.Known.{a_place}
+use Rattle.rules.specs.Known.{place_some}
 use Rattle.rules.specs.declared.Place.{Place}
 use Rattle.rules.specs.Model.{places, line_count, Model, ready, clock, line}
 use Rattle.rules.specs.Rules.{relined, woken, readied, rung, act}
@@ -25,7 +25,7 @@ pub record Calls (d : Desk) (l : List ℕ) (p : ℕ) : Type 0 where
   pub loose : Loose line_count (line_of places l) p
 
 pub calls : {d : Desk} {b w l : List ℕ} → Stands d b w l → {o : Option Place} → o ≡ place_known d.running.0 → {p : Place} → o ≡ Some p → Calls d l p.0
-calls k e f = let z = a_place e f in record { is = z.0; busy = z.1; place = rw z.0 (caller_place k z.1); loose = rw z.0 (caller_loose k z.1) }
+calls k e f = let z = place_some e f in record { is = z.0; busy = z.1; place = rw z.0 (caller_place k z.1); loose = rw z.0 (caller_loose k z.1) }
 
 -- ---- 6
 

@@ -87,7 +87,8 @@ fn wake_listener(a: &mut Arrays, n: Number, p: Place)
     verbs::wake(a, p, codes::ENDED, n, 0);
 }
 
-// All who receive from the number n, which ends, are told, by rising place.
+// All who receive from the number n, which ends, are told, by rising place. The loop is that of `let_go` with another step. A function over both that is lent
+// the step would have to say what a call of it needs and what it leaves, and is longer than the two loops.
 fn wake_listeners(a: &mut Arrays, n: Number)
     requires { SoundIn a.old × (n.0 ≤ last_number) }
     ensures { StepsIn a.old a.new (let_from (listening n.0) 0 places) }
@@ -193,5 +194,6 @@ pub fn end(a: &mut Arrays, d: Desk, n: Number) -> Result<Done, Refusal>
     let Some(p) = find(&a.table, n) else {
         return Err(Refusal::NotLive);
     };
-    Ok(Done::at(end_down(a, d, filled::count(d.filled), p)))
+    let depth = filled::count(d.filled);
+    Ok(Done::at(end_down(a, d, depth, p)))
 }

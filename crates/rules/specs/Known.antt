@@ -35,11 +35,11 @@ pub device_not : {x : ℕ} → x ≡ none → None ≡ device_known x
 device_not e = grind arith
 
 module _ {o : Option Place} {x : ℕ} (e : o ≡ place_known x) where
-  pub no_place : o ≡ None → x ≡ none
-  no_place f = no_place_is x (sym e ∙ f)
+  pub place_none : o ≡ None → x ≡ none
+  place_none f = no_place_is x (sym e ∙ f)
 
-  pub a_place : {p : Place} → o ≡ Some p → (p.0 ≡ x) × (x ≡ none → ⊥)
-  a_place f = place_is x (sym e ∙ f)
+  pub place_some : {p : Place} → o ≡ Some p → (p.0 ≡ x) × (x ≡ none → ⊥)
+  place_some f = place_is x (sym e ∙ f)
 
   pub place_yes : is_some o ≡ true → x ≡ none → ⊥
   place_yes f = some_place_is x (ap is_some (sym e) ∙ f)
@@ -48,8 +48,8 @@ module _ {o : Option Place} {x : ℕ} (e : o ≡ place_known x) where
   place_no f = none_place_is x (ap is_some (sym e) ∙ f)
 
 module _ {o : Option Device} {x : ℕ} (e : o ≡ device_known x) where
-  pub no_device : o ≡ None → x ≡ none
-  no_device f = no_device_is x (sym e ∙ f)
+  pub device_none : o ≡ None → x ≡ none
+  device_none f = no_device_is x (sym e ∙ f)
 
-  pub a_device : {i : Device} → o ≡ Some i → (i.0 ≡ x) × (x ≡ none → ⊥)
-  a_device f = device_is x (sym e ∙ f)
+  pub device_some : {i : Device} → o ≡ Some i → (i.0 ≡ x) × (x ≡ none → ⊥)
+  device_some f = device_is x (sym e ∙ f)

@@ -1,9 +1,9 @@
 -- One who listens for the dead, by the bytes of the arrays, and the loop over all places.
-use Rattle.std.specs.Prelude.{◌≡◌, refl, List, [], Bool, true, false, cond, not, ◌&&◌, ℕ, ◌+◌, ◌<◌, eqb, get_or}
-use Rattle.std.proofs.Common.{sym, ap, ◌∙◌, ne_eqb}
+use Rattle.std.specs.Prelude.{◌≡◌, refl, List, [], is_some, Bool, true, false, cond, not, ◌&&◌, ℕ, ◌+◌, ◌<◌, eqb, get_or}
+use Rattle.std.proofs.Common.{sym, ap, ◌∙◌, arith, ne_eqb}
 use Rattle.lists.specs.Lists.{none}
 use Rattle.lines.specs.Lines.{line_of, Loose}
-use Rattle.rules.specs.Values.{nobody}
+use Rattle.rules.specs.Values.{nobody, place_known}
 use Rattle.rules.specs.Model.{places, line_count, Receiving, Thread, Model, thread}
 use Rattle.rules.specs.Rules.{woken, Group, deserted}
 use Rattle.order.specs.HandBack.{let_step}
@@ -29,6 +29,11 @@ module _ (b : List ℕ) (p : ℕ) {st : ℕ} (e : st ≡ get_or b (cell 1 p) 0) 
 
     pub from_named : (n ≡ nobody → ⊥) → {r : ℕ} → r ≡ found b n → eqb r none ≡ deserted_at b p
     from_named y g = rw (← e, ← f, z, ne_eqb n nobody y, g)
+
+-- who is at no place is nowhere to be found
+pub lost : (x : ℕ) {r : Bool} → is_some (place_known x) ≡ not r → r ≡ eqb x none
+lost x {r = true} e = grind arith
+lost x {r = false} e = grind arith
 
 -- whoever listens for the dead now is told
 abbrev pub wakes_at : ℕ → Model → Model

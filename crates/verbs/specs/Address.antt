@@ -4,7 +4,7 @@ use Rattle.std.proofs.Common.{sym, ap, subst, ◌∙◌, arith, eq-eqb, ne_eqb, 
 use Rattle.std.proofs.lemmas.Bool.{eqb-false}
 use Rattle.lists.specs.Lists.{none}
 use Rattle.rules.specs.Values.{refusal_code, code_in, place_known}
-use Rattle.rules.specs.Known.{no_place, a_place}
+use Rattle.rules.specs.Known.{place_none, place_some}
 use Rattle.rules.specs.declared.Place.{Place}
 use Rattle.rules.specs.declared.Refusal.{Refusal}
 use Rattle.rules.specs.declared.Refusal.TheVariants.{Idle, NoNumber, OwnNumber, NotLive, NotAwaiting, Full}
@@ -162,8 +162,8 @@ module _ {A : Type 0} {d : Desk} {b : List ℕ} (n : ℕ) {r : Result A Refusal}
     }
 
     pub addresses : {o : Option Place} → o ≡ place_known (found b n) → Addresses d b n (ok_or o NotLive)
-    addresses {o = None} f = addresses_4 (no_place f refl)
-    addresses {o = Some p} f = let h = a_place f refl in addresses_0 h.0 h.1
+    addresses {o = None} f = addresses_4 (place_none f refl)
+    addresses {o = Some p} f = let h = place_some f refl in addresses_0 h.0 h.1
 
 -- ---- where it lives
 

@@ -1,11 +1,6 @@
 -- `waits` meets its contract. The loop's invariant: nobody stands in the lines passed.
-use Prim.Native.Nat.{◌-◌}
-use Rattle.lists.specs.Sizes.{queue_count}
 use Rattle.table.specs.Choose.{NoneUpTo}
 use Rattle.table.proofs.waits.Given as goal
 
 abbrev pub invariant-loop-q : goal.invariant-loop-q
 invariant-loop-q l = NoneUpTo l.l l.q
-
-abbrev pub decreases-loop-q : goal.decreases-loop-q
-decreases-loop-q l = queue_count - l.q

@@ -1,5 +1,8 @@
 -- `is_deserted` meets its contract: it goes by the cases of the test.
+use mathlib.Core.Path.{◌≡◌, refl, sym, ap, ◌∙◌}
 use native.Mathlib.Omega.{arith}
+use Rattle.std.specs.Prelude.{is_some}
+use Rattle.updating.specs.Deserted.{lost}
 use Rattle.updating.specs.Deserted.{not_receiving, from_any, from_named}
 use Rattle.updating.proofs.is_deserted.Goals as goal
 
@@ -13,5 +16,5 @@ returns-then-n c =
 
 pub returns : goal.returns
 returns c =
-    from_named c.args.t.now.blocks c.args.p.0 c.standing_of.ensures (omega (arith, c.if-standing_of-ne-RECEIVING.false)) c.partner_of-n.ensures
-    c.if-n.false c.find.ensures
+    lost _ (sym (ap is_some c.find.ensures) ∙ c.is_none.ensures)
+    ∙ from_named c.args.t.now.blocks c.args.p.0 c.standing_of.ensures (omega (arith, c.if-standing_of-ne-RECEIVING.false)) c.partner_of-n.ensures c.if-n.false refl

@@ -6,9 +6,6 @@ use Rattle.life.proofs.clock.ring_all.Goals as goal
 pub loop-init : goal.loop-init
 loop-init c = drain_start c.requires
 
-pub ring-requires : goal.ring-requires
-ring-requires c = (c.loop.invariant.whole, omega arith, omega arith)
-
 pub loop-smaller : goal.loop-smaller
 loop-smaller c = drain_less c.loop.invariant c.ring.ensures c.loop-test.true
 

@@ -3,8 +3,5 @@ use mathlib.Core.Path.{refl}
 use Rattle.life.specs.Clock.{ticks}
 use Rattle.life.proofs.clock.tick.Goals as goal
 
-pub ring_all-requires : goal.ring_all-requires
-ring_all-requires c = c.requires.whole
-
 pub returns : goal.returns
 returns c = rw c.at.ensures (ticks c.requires c.ring_all.ensures refl)

@@ -2,13 +2,13 @@
 use mathlib.Core.Path.{refl}
 use native.Mathlib.Omega.{arith}
 use Rattle.rules.specs.Rules.{wait_clock}
-use Rattle.rules.specs.Known.{no_place}
+use Rattle.rules.specs.Known.{place_none}
 use Rattle.verbs.specs.Steps.{then, turns, stood, joined}
 use Rattle.life.specs.Clock.{calls, wait_1, wait_0}
 use Rattle.life.proofs.clock.wait_clock.Goals as goal
 
 pub returns-in_default : goal.returns-in_default
-returns-in_default c = wait_1 c.requires (no_place c.runner.ensures c.in_default.is) refl
+returns-in_default c = wait_1 c.requires (place_none c.runner.ensures c.in_default.is) refl
 
 pub stand-requires : goal.stand-requires
 stand-requires c = (calls c.requires c.runner.ensures c.in-Some.is).place

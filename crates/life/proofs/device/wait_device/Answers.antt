@@ -2,7 +2,7 @@
 use mathlib.Core.Path.{refl}
 use native.Mathlib.Omega.{arith}
 use Rattle.rules.specs.Rules.{wait_device}
-use Rattle.rules.specs.Known.{no_place}
+use Rattle.rules.specs.Known.{place_none}
 use Rattle.verbs.specs.Steps.{then, turns, stood, joined}
 use Rattle.life.specs.Clock.{calls}
 use Rattle.life.specs.Device.{device_1, device_2, device_0}
@@ -10,7 +10,7 @@ use Rattle.life.proofs.device.wait_device.Goals as goal
 
 pub returns-in_default : goal.returns-in_default
 returns-in_default c =
-    device_1 c.requires c.args.i (no_place c.runner.ensures c.in_default.is) refl
+    device_1 c.requires c.args.i (place_none c.runner.ensures c.in_default.is) refl
 
 pub returns-then-i : goal.returns-then-i
 returns-then-i c =

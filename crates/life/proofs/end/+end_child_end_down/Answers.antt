@@ -35,8 +35,5 @@ end_down-end_child-e-requires t c = (
 pub end_down-loop-r-preserved : goal.end_down-loop-r-preserved
 end_down-loop-r-preserved t c = sweep_again c.loop-r.invariant c.loop-r-test.true c.end_child-e.ensures
 
-pub end_down-end_one-requires : goal.end_down-end_one-requires
-end_down-end_one-requires t c = (c.loop-r.invariant.tallied, c.loop-r.invariant.may.good, c.loop-r.invariant.may.here)
-
 pub end_down-returns : goal.end_down-returns
 end_down-returns t c = sweep_end c.loop-r.invariant (omega arith) c.requires.1 c.end_one.ensures

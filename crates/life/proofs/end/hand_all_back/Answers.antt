@@ -5,9 +5,6 @@ use Rattle.life.proofs.end.hand_all_back.Goals as goal
 pub loop-n-init : goal.loop-n-init
 loop-n-init c = drain_start c.requires.0
 
-pub hand_back-requires : goal.hand_back-requires
-hand_back-requires c = (c.loop-n.invariant.whole, c.requires.1, c.requires.2)
-
 pub loop-n-smaller : goal.loop-n-smaller
 loop-n-smaller c = drain_less c.loop-n.invariant c.hand_back.ensures c.loop-n-test.true
 

@@ -7,10 +7,6 @@ use Rattle.life.proofs.end.let_go.Goals as goal
 pub loop-p-init : goal.loop-p-init
 loop-p-init c = let_start c.requires.0
 
-pub let_one-requires : goal.let_one-requires
-let_one-requires c =
-    (c.loop-p.invariant.now, c.requires.1, c.loop-p-test.true)
-
 pub loop-p-preserved : goal.loop-p-preserved
 loop-p-preserved c =
     let_again c.loop-p.invariant (awaiting_fair _ c.requires.1) c.loop-p-test.true c.let_one.ensures

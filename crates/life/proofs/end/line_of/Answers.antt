@@ -2,7 +2,7 @@
 use mathlib.Core.Path.{refl, ap}
 use native.Mathlib.Omega.{arith}
 use Rattle.lists.specs.Lists.{known}
-use Rattle.rules.specs.Known.{no_place, a_place}
+use Rattle.rules.specs.Known.{place_none, place_some}
 use Rattle.life.specs.Leave.{known_line, sent_low, waits_low, line_ready, line_sending, line_waiting, line_device, line_none}
 use Rattle.life.proofs.end.line_of.Goals as goal
 
@@ -12,18 +12,18 @@ returns-in-2 c = ap known (line_ready c.args.t.now.blocks c.args.p.0 c.standing_
 pub returns-in_err-receiver-in-3 : goal.returns-in_err-receiver-in-3
 returns-in_err-receiver-in-3 c =
     let h = sent_low c.args.t.now.blocks c.args.p.0 c.requires.1 c.standing_of.ensures c.in-3.is c.partner_of.ensures refl in
-    let n = no_place c.find.ensures c.in_err-receiver-in-3.was in
+    let n = place_none c.find.ensures c.in_err-receiver-in-3.was in
     absurd (omega arith)
 
 pub overflow_add-result : goal.overflow_add-result
 overflow_add-result c =
-    let z = a_place c.find.ensures c.in_ok-receiver-in-3.was in
+    let z = place_some c.find.ensures c.in_ok-receiver-in-3.was in
     let h = sent_low c.args.t.now.blocks c.args.p.0 c.requires.1 c.standing_of.ensures c.in-3.is c.partner_of.ensures z.0 in
     omega arith
 
 pub returns-in_ok-receiver-in-3 : goal.returns-in_ok-receiver-in-3
 returns-in_ok-receiver-in-3 c =
-    let z = a_place c.find.ensures c.in_ok-receiver-in-3.was in
+    let z = place_some c.find.ensures c.in_ok-receiver-in-3.was in
     let h = sent_low c.args.t.now.blocks c.args.p.0 c.requires.1 c.standing_of.ensures c.in-3.is c.partner_of.ensures z.0 in
     known_line (line_sending c.args.t.now.blocks c.args.p.0 c.standing_of.ensures (omega (arith, c.in-3.is)) c.in-3.is c.partner_of.ensures z.0) (omega arith)
 

@@ -4,14 +4,8 @@ use Rattle.lists.specs.Known.{known_none, known_some}
 use Rattle.life.specs.Leave.{leaves_off, leaves_not, leaves_low, leaves_line}
 use Rattle.life.proofs.end.out_of_line.Goals as goal
 
-pub standing_of-requires : goal.standing_of-requires
-standing_of-requires c = c.requires.1
-
 pub returns-then-standing_of-eq-RUNNING : goal.returns-then-standing_of-eq-RUNNING
 returns-then-standing_of-eq-RUNNING c = leaves_off _ c.requires.0 c.requires.1 (sym c.standing_of.ensures ∙ c.if-standing_of-eq-RUNNING.true) c.turned_to.ensures
-
-pub line_of-requires : goal.line_of-requires
-line_of-requires c = (c.requires.1, c.requires.2)
 
 pub returns-in_default : goal.returns-in_default
 returns-in_default c =

@@ -7,10 +7,6 @@ use Rattle.life.proofs.end.wake_listeners.Goals as goal
 pub loop-p-init : goal.loop-p-init
 loop-p-init c = let_start c.requires.0
 
-pub wake_listener-requires : goal.wake_listener-requires
-wake_listener-requires c =
-    (c.loop-p.invariant.now, c.requires.1, c.loop-p-test.true)
-
 pub loop-p-preserved : goal.loop-p-preserved
 loop-p-preserved c =
     let_again c.loop-p.invariant (listening_fair _ c.requires.1) c.loop-p-test.true c.wake_listener.ensures

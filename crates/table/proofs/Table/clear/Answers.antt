@@ -6,13 +6,10 @@ use Rattle.table.specs.Clean.{emptied_none, emptied_more}
 use Rattle.table.proofs.Table.clear.Goals as goal
 
 pub loop-p-init : goal.loop-p-init
-loop-p-init c = (omega arith, emptied_none c.requires)
-
-pub clean-requires : goal.clean-requires
-clean-requires c = (c.loop-p.invariant.1.sized, c.loop-p-test.true)
+loop-p-init c = emptied_none c.requires
 
 pub loop-p-preserved : goal.loop-p-preserved
-loop-p-preserved c = (omega arith, emptied_more c.loop-p.invariant.1 c.loop-p-test.true c.clean.ensures)
+loop-p-preserved c = emptied_more c.loop-p.invariant c.loop-p-test.true c.clean.ensures
 
 pub returns : goal.returns
-returns c = let e : c.loop-p.p ≡ places = omega arith in rw e at c.loop-p.invariant.1
+returns c = let e : c.loop-p.p ≡ places = omega arith in rw e at c.loop-p.invariant

@@ -2,7 +2,7 @@
 use mathlib.Core.Path.{refl, sym, ap, ◌∙◌}
 use native.Mathlib.Omega.{arith}
 use Rattle.rules.specs.Values.{code_in}
-use Rattle.rules.specs.Known.{no_place, a_place}
+use Rattle.rules.specs.Known.{place_none, place_some}
 use Rattle.events.specs.Events.{done_is}
 use Rattle.verbs.specs.Steps.{stood}
 use Rattle.verbs.specs.Caller.{caller_place}
@@ -35,18 +35,18 @@ returns-in_default c =
     let z = receive_busy c.requires c.args.from c.source.ensures (ap code_in c.in_ok-source.was) in
     let s = stood c.requires.whole (caller_place c.requires z) c.stand.ensures in
     receive_0 c.requires c.args.from c.source.ensures (ap code_in c.in_ok-source.was)
-    (receives c.requires z c.args.from.0 refl (no_place c.pick.ensures c.in_default.is) s c.turned_to.ensures)
+    (receives c.requires z c.args.from.0 refl (place_none c.pick.ensures c.in_default.is) s c.turned_to.ensures)
     (done_is c.args.d c.at.ensures)
 
 pub take-requires : goal.take-requires
 take-requires c =
     let z = receive_busy c.requires c.args.from c.source.ensures (ap code_in c.in_ok-source.was) in
-    let p = a_place c.pick.ensures c.in-Some.is in
+    let p = place_some c.pick.ensures c.in-Some.is in
     (c.requires.whole, caller_place c.requires z, match_place c.requires z c.args.from.0 p.0 (λ y. p.1 (sym p.0 ∙ y)))
 
 pub returns : goal.returns
 returns c =
     let z = receive_busy c.requires c.args.from c.source.ensures (ap code_in c.in_ok-source.was) in
-    let p = a_place c.pick.ensures c.in-Some.is in
+    let p = place_some c.pick.ensures c.in-Some.is in
     receive_0 c.requires c.args.from c.source.ensures (ap code_in c.in_ok-source.was)
     (received c.requires z c.args.from.0 p.0 (λ y. p.1 (sym p.0 ∙ y)) c.take.ensures) (done_is c.args.d c.at-2.ensures)
