@@ -11,7 +11,8 @@ mod read;
 
 pub use judge::row_at;
 
-// What load answers: document 01's code, and the state.
+// What load answers: document 01's code, and the state. (They stand beside each other, and in no Result, since a refusal gives a state too, the fresh one:
+// `Loads`.)
 #[derive(Clone, Copy)]
 pub struct Loaded {
     pub code: u8,

@@ -16,10 +16,6 @@ returns-then-not-consists c =
     foreign (foreign_not c.requires.0 c.candidate-s.ensures.0 (c.consists.ensures.no c.if-not-consists.true))
     c.refuse.ensures
 
-pub holds-requires : goal.holds-requires
-holds-requires c =
-    (c.consists.ensures.yes c.if-not-consists.false).whole.lines
-
 pub returns-then-not-holds : goal.returns-then-not-holds
 returns-then-not-holds c =
     foreign (foreign_full c.requires.0 c.candidate-s.ensures.0 (c.holds.ensures.no c.if-not-holds.true))

@@ -3,12 +3,7 @@ use mathlib.Core.Path.{sym}
 use Rattle.std.proofs.lemmas.Slice.Eq.{slice_eq-Decides}
 use Rattle.std.proofs.lemmas.Bool.Decides.{Decides-eqb, not_from_Decides}
 use Rattle.loading.specs.Judges.{written_tells}
-use borrow.Author.Rules.{rules}
 use Rattle.loading.proofs.judge.same.Goals as goal
-
-pub write-n-requires : goal.write-n-requires
-write-n-requires c =
-    (c.requires.0, c.requires.1, search rules)
 
 pub returns : goal.returns
 returns c =
