@@ -269,4 +269,3 @@ fn told(rt: &impl Print, code: u8, quiet: bool) -> io::Result<bool> {
     print!(rt; "!")?;
     Ok(false)
 }
-
