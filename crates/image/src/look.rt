@@ -42,7 +42,7 @@ pub fn part_of(image: &[u8], n: Number) -> Part
     let code = loaded.code;
     if code != codes::DONE {
         return Part {
-            code: code,
+            code,
             offset: 0,
             length: 0,
         };
