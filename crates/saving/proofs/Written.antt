@@ -2,12 +2,12 @@
 use Rattle.std.specs.Prelude.{ℕ, ◌+◌, ◌*◌, ◌≤◌, ◌<◌, ◌≡◌, Bool, false, length}
 use Rattle.std.proofs.Math.Path.{sym, ap}
 use Rattle.std.proofs.Common.{◌∙◌, arith, length-append}
-use mathlib.Core.List.{List, ◌++◌}
+use mathlib.Core.List.{List, [], ◌∷◌, ◌++◌}
 use Rattle.std.proofs.Math.ListN.{drop}
 use Rattle.lists.specs.Sizes.{queue_count}
 use Rattle.lists.specs.Lists.{none, tally}
 use Rattle.lists.specs.Bytes.{two_bytes}
-use Rattle.lists.specs.Laid.{Wrote, laid_length, wrote_front}
+use Rattle.lists.specs.Laid.{laid, Wrote, laid_length, wrote_then, wrote_front, Going, going_start, going_by, going_room, going_more, going_last}
 use Rattle.lines.specs.Lines.{line_of}
 use Rattle.filled.specs.Filled.{width, word_of}
 use Rattle.rules.specs.Model.{places, line, live}
@@ -16,7 +16,7 @@ use Rattle.table.specs.Rows.{line_at}
 use Rattle.table.specs.Choose.{live_is}
 use Rattle.table.specs.declared.Arrays.{Arrays}
 use Rattle.table.specs.declared.Desk.{Desk}
-use Rattle.saving.specs.Format.{head_length, entry_length, queue_lengths, queues, head, encode_as}
+use Rattle.saving.specs.Format.{total_at, head_length, entry_length, queue_lengths, queues, head, encode_as}
 use Rattle.saving.specs.Queues.{sizes_same, joined_same, lengths_length}
 use Rattle.saving.specs.Longest.{longest_image}
 use Rattle.saving.proofs.Longest.{live_length, tail_length, encode_length, longest_as}
@@ -51,6 +51,62 @@ module _ {row : Row} {a : Arrays} {v : Writer} {o : ℕ} (k : PutsTail row a v o
     room = room_first v (contents_in row a o) (waiting_in row a.lines ++ bodies_in row a) tail_room;
     low = let i = tail_length row (held a) in let c = k.first in let h = k.low in omega arith;
   }
+
+  start : Going (laid v.out.now v.at (tail_in row a)) (v.at + length (tail_in row a)) v.out.now v.at (contents_in row a o ++ (waiting_in row a.lines ++ bodies_in row a))
+  start = going_by (going_start v.out.now v.at (tail_in row a) k.room) tail_is
+
+  module _ {t : List ℕ} {r : ℕ} (p₁ : Wrote v.out.now v.at (contents_in row a o) t r) where
+    pub queues_room : r + length (waiting_in row a.lines) ≤ length t
+    queues_room = going_room (waiting_in row a.lines) (bodies_in row a) (going_more start p₁)
+
+    module _ {u : List ℕ} {n : ℕ} (p₂ : Wrote t r (waiting_in row a.lines) u n) where
+      left : Going (laid v.out.now v.at (tail_in row a)) (v.at + length (tail_in row a)) u n (bodies_in row a)
+      left = going_more (going_more start p₁) p₂
+
+      pub bodies_room : n + length (bodies_in row a) ≤ length u
+      bodies_room = let i = left.ends in let c = left.room in omega arith
+
+      pub tail_whole : {z : List ℕ} {e : ℕ} → Wrote u n (bodies_in row a) z e → Wrote v.out.now v.at (tail_in row a) z e
+      tail_whole p₃ = going_last left p₃
+
+-- ---- the head: four bytes, the lengths, and the total
+module _ (row : Row) (l : List ℕ) (y x n k : ℕ) (s : List ℕ) (room : head_length row ≤ length s) {xs : List ℕ} (ex : xs ≡ row.edition ∷ y ∷ x ∷ n ∷ []) where
+  pub first_room : 0 + length xs ≤ length s
+  first_room = let a = ap length ex in omega arith
+
+  module _ {t : List ℕ} {r : ℕ} (p : Wrote s 0 xs t r) where
+    pub lengths_room : r + length (lengths_in row l) ≤ length t
+    lengths_room =
+        let a = ap length ex in
+        let c = lengths_length (line_of places l) row in
+        let d = p.next in
+        let e = ap length p.bytes ∙ laid_length s 0 xs first_room in
+        omega arith
+
+    module _ {u : List ℕ} {v : ℕ} (q : Wrote t r (lengths_in row l) u v) {ys : List ℕ} (ey : ys ≡ two_bytes k) where
+      both : Wrote s 0 (xs ++ lengths_in row l) u v
+      both = wrote_then p q (let a = ap length ex in let c = lengths_length (line_of places l) row in omega arith)
+
+      both_length : length (xs ++ lengths_in row l) ≡ total_at row
+      both_length =
+          let a = ap length ex in
+          let c = lengths_length (line_of places l) row in
+          let d = length-append xs (lengths_in row l) in
+          omega arith
+
+      pub total_room : v + length ys ≤ length u
+      total_room =
+          let a = ap length ey in
+          let c = both_length in
+          let d = both.next in
+          let e = ap length both.bytes ∙ laid_length s 0 (xs ++ lengths_in row l) (omega arith) in
+          omega arith
+
+      pub head_whole : {z : List ℕ} {e : ℕ} → Wrote u v ys z e → Wrote s 0 (head_of row y x n (lengths_in row l) k) z e
+      head_whole w =
+          let a = ap length ey in
+          let c = both_length in
+          rw (ex, ey) at (wrote_then both w (omega arith))
 
 -- ---- the whole
 module _ (row : Row) (few : row.queues ≤ queue_count) {d : Desk} {a : Arrays} (k : StandsByIn false d a) where

@@ -1,9 +1,10 @@
 -- A line is walked, place by place, and written.
-use Rattle.std.specs.Prelude.{◌≡◌, refl, List, [], ◌∷◌, Option, Some, ℕ}
-use Rattle.std.proofs.Common.{◌∙◌, arith}
+use Rattle.std.specs.Prelude.{◌≡◌, refl, List, [], ◌∷◌, Option, Some, ℕ, length}
+use Rattle.std.proofs.Common.{sym, ◌∙◌, arith}
 use Rattle.lists.specs.Lists.{none, known, KnownBy, front}
 use Rattle.lists.specs.Known.{known_some, known_of}
 use Rattle.lists.specs.Sizes.{places}
+use Rattle.lists.specs.Laid.{laid_length}
 use Rattle.lines.specs.Lines.{line_of}
 use Rattle.lines.specs.Passes.{left, Reaches, Passes, left_all, walk_start, walk_some}
 use Rattle.saving.specs.Puts.{Room, Puts, Putting, putting_start, putting_by, putting_more, putting_end}
@@ -29,6 +30,9 @@ module _ {v : Writer} {l : List ℕ} {q : ℕ} {w : Writer} {p : ℕ} (k : Linin
 
   pub lining_more : {u : Writer} {o : Option ℕ} → Puts w (p ∷ []) u → KnownBy (Passes places l q p) o → KnownBy (Lining v l q u) o
   lining_more z (x, e, n) = (x, e, record { reaches = n.reaches; putting = putting_more {ys = p ∷ []} (putting_by k.putting n.left_is) z })
+
+  pub lining_length : Room v (line_of places l q) → length w.out.now ≡ length v.out.now
+  lining_length h = sym k.putting.going.whole ∙ laid_length v.out.now v.at (line_of places l q) h
 
   pub lining_end : left places l q p ≡ [] → Puts v (line_of places l q) w
   lining_end e = putting_end (putting_by k.putting e)

@@ -1,6 +1,6 @@
 -- How the code comes to each outcome of a save: the image stands in front of an array of its own, from where it is copied.
-use Rattle.std.specs.Prelude.{ℕ, ◌≤◌, ◌<◌, ◌≡◌, refl, List, ◌++◌, false, length, take, drop}
-use Rattle.std.proofs.Common.{sym, ap, ◌∙◌, arith, length-append, take_at}
+use Rattle.std.specs.Prelude.{ℕ, ◌+◌, ◌≤◌, ◌<◌, ◌≡◌, refl, List, ◌++◌, false, length, take, drop}
+use Rattle.std.proofs.Common.{sym, ap, ◌∙◌, arith, length-append, length-take-le, take_at}
 use Rattle.lists.specs.Sizes.{queue_count}
 use Rattle.table.specs.Cells.{StandsByIn}
 use Rattle.nucleus.specs.View.{view, Consists}
@@ -28,12 +28,18 @@ module _ {s : State} (k : Consists s) {row : Row} (f : row ≡ newest) {i t : Li
   pub image_fits : r ≤ length t
   image_fits = let a = image.size in let b = ap length image.bytes ∙ length-append (encode (view s)) (drop r i) in omega arith
 
+  pub image_size : r ≡ length (take r t)
+  image_size = sym (length-take-le r t image_fits)
+
   image_is : take r t ≡ encode (view s)
   image_is = ap (take r) image.bytes ∙ take_at (encode (view s)) (drop r i) r (sym image.size)
 
   module _ (before : List ℕ) where
     pub save_7 : length before < r → Saves s before 7 0 before
     save_7 h = let a = image.size in short k (omega arith) (record { code_is = refl; length_is = refl; bytes_are = refl })
+
+    pub save_room : r ≤ length before → 0 + length (take r t) ≤ length before
+    save_room h = let a = image_size in omega arith
 
     pub save_0 : r ≤ length before → {xs : List ℕ} → xs ≡ take r t → Saves s before 0 r (xs ++ drop r before)
     save_0 h e =
