@@ -14,3 +14,4 @@ pub mod Example
 pub mod Writing
 pub mod Puts
 pub mod Loops
+pub mod Writer

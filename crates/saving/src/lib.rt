@@ -24,7 +24,7 @@ use table::{Arrays, Desk, Thread};
 use writer::Writer;
 
 pub mod format;
-mod writer;
+pub mod writer;
 
 // The longest image: that of the newest edition, where every place lives and waits somewhere.
 pub const LONGEST: usize = LENGTHS_AT
