@@ -82,7 +82,8 @@ fn fits(t: Thread) -> bool
 
 // ---- a thread and its partner
 
-// The line into which its standing puts a thread. NONE where that is no line, and ASTRAY where the partner that it must have is not live, or no device.
+// The line into which its standing puts a thread. NONE where that is no line, and ASTRAY where the partner that it must have is not live, or no device: a byte,
+// since it is compared with the byte that a survey found.
 fn home(who: &[u8; ENTRIES], t: Thread) -> u8
     ensures { result ≡ home_of who.now (as_thread t) }
 {

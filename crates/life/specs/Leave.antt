@@ -1,7 +1,7 @@
 -- Event 5, end: the thread at p leaves the line where its standing puts it, or stops running.
-use Rattle.std.specs.Prelude.{◌≡◌, refl, List, Some, false, cond, ℕ, ◌+◌, ◌<◌, eqb, get_or}
+use Rattle.std.specs.Prelude.{◌≡◌, refl, List, false, cond, ℕ, ◌+◌, ◌<◌, eqb, get_or}
 use Rattle.std.proofs.Common.{sym, ap, ◌∙◌, arith, eq-eqb, ne_eqb, eqb-true}
-use Rattle.lists.specs.Lists.{none, known, without}
+use Rattle.lists.specs.Lists.{none, without}
 use Rattle.lists.specs.Laws.{by_test}
 use Rattle.lines.specs.Lines.{line_of, Turned}
 use Rattle.rules.specs.Model.{places, devices, line_count, Running, Ready, Sending, Waiting, AtDevice, Thread, Model, ready, clock, device, inbox}
@@ -37,10 +37,6 @@ out_as t p m =
 
 abbrev off_line : ℕ → ℕ → Model → Model
 off_line q p m = cond (eqb q none) m (leave q p m)
-
--- a line that is named
-pub known_line : {q x : ℕ} → q ≡ x → (q ≡ none → ⊥) → Some q ≡ known x
-known_line {q} e n = rw (← e, ne_eqb q none n)
 
 -- whom it sends to stands at a place
 pub sent_low : (b : List ℕ) (p : ℕ) {s k r : ℕ} → Served b p → s ≡ get_or b (cell 1 p) 0 → s ≡ Sending → k ≡ get_or b (cell 2 p) 0 → r ≡ found b k → r < places

@@ -1,5 +1,5 @@
 -- What it comes to that a number stands for a place, or for none.
-use Rattle.std.specs.Prelude.{◌≡◌, Option, Some, None, is_some, true, false, ℕ}
+use Rattle.std.specs.Prelude.{◌≡◌, Option, Some, None, is_some, true, ℕ}
 use Rattle.std.proofs.Common.{sym, ◌∙◌, ap, subst, arith}
 use Rattle.lists.specs.Lists.{none, known}
 
@@ -11,9 +11,6 @@ some_is x e = grind arith
 
 is_some_is : (x : ℕ) → is_some (known x) ≡ true → x ≡ none → ⊥
 is_some_is x e z = grind arith
-
-is_none_is : (x : ℕ) → is_some (known x) ≡ false → x ≡ none
-is_none_is x e = grind arith
 
 module _ {o : Option ℕ} {x : ℕ} (e : o ≡ known x) where
   pub known_none : o ≡ None → x ≡ none
@@ -28,6 +25,3 @@ module _ {o : Option ℕ} {x : ℕ} (e : o ≡ known x) where
 
   pub known_yes : is_some o ≡ true → x ≡ none → ⊥
   known_yes f = is_some_is x (ap is_some (sym e) ∙ f)
-
-  pub known_no : is_some o ≡ false → x ≡ none
-  known_no f = is_none_is x (ap is_some (sym e) ∙ f)

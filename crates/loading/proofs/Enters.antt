@@ -130,13 +130,13 @@ module _ {row : Row} {s l l₁ : List ℕ} {t : Table} {a : Arrays} {n f y x : �
     is_seen : model_of y x a.table.blocks a.table.words a.lines ≡ m
     is_seen = rw (ey ∙ last_is I, ex ∙ running_is I) (all_read (old_of strict I.consistent) all_in)
 
-  candidate_parentless : row.parents ≡ false → Parentless a.table.blocks
+  pub candidate_parentless : row.parents ≡ false → Parentless a.table.blocks
   candidate_parentless z = E.parentless z (λ p h. ap (λ (x : Thread). x.parent) (e.clean p h))
 
-  candidate_beyond : NobodyFrom row.places a.table.blocks
+  pub candidate_beyond : NobodyFrom row.places a.table.blocks
   candidate_beyond = E.beyond (λ p _ h. ap (λ (x : Thread). x.standing) (e.clean p h))
 
-  candidate_shows : (strict : Bool) (m : Model) → ImageAsBy strict row m s → ShowsBy strict (record { desk = record { filled = f; last = record { 0 = y }; running = record { 0 = x } }; arrays = a }) m
+  pub candidate_shows : (strict : Bool) (m : Model) → ImageAsBy strict row m s → ShowsBy strict (record { desk = record { filled = f; last = record { 0 = y }; running = record { 0 = x } }; arrays = a }) m
   candidate_shows strict m I = record {
     consists = record {
       whole = record { blocks = E.sized.blocks; words = E.sized.words; lines = (all_in strict m I).filed.tidy };

@@ -1,5 +1,5 @@
 -- What it comes to that a number stands for a place or a device, or for none.
-use Rattle.std.specs.Prelude.{◌≡◌, Option, Some, None, is_some, true, false, ℕ}
+use Rattle.std.specs.Prelude.{◌≡◌, Option, Some, None, is_some, false, ℕ}
 use Rattle.std.proofs.Common.{sym, ap, ◌∙◌, arith}
 use Rattle.lists.specs.Lists.{none}
 use Rattle.rules.specs.Values.{place_known, device_known}
@@ -11,9 +11,6 @@ no_place_is x e = grind arith
 
 place_is : (x : ℕ) {p : Place} → place_known x ≡ Some p → (p.0 ≡ x) × (x ≡ none → ⊥)
 place_is x e = grind arith
-
-some_place_is : (x : ℕ) → is_some (place_known x) ≡ true → x ≡ none → ⊥
-some_place_is x e z = grind arith
 
 none_place_is : (x : ℕ) → is_some (place_known x) ≡ false → x ≡ none
 none_place_is x e = grind arith
@@ -43,9 +40,6 @@ module _ {o : Option Place} {x : ℕ} (e : o ≡ place_known x) where
 
   pub place_some : {p : Place} → o ≡ Some p → (p.0 ≡ x) × (x ≡ none → ⊥)
   place_some f = place_is x (sym e ∙ f)
-
-  pub place_yes : is_some o ≡ true → x ≡ none → ⊥
-  place_yes f = some_place_is x (ap is_some (sym e) ∙ f)
 
   pub place_no : is_some o ≡ false → x ≡ none
   place_no f = none_place_is x (ap is_some (sym e) ∙ f)

@@ -1,4 +1,5 @@
-// The codes of document 01 ("When the nucleus says no"), each by one name.
+// The codes of document 01 ("When the nucleus says no"), each by one name. They are numbers, and no enum, since C is handed them, and answers in an image
+// have them. An event is refused by a `Refusal`.
 pub const DONE: u8 = 0;
 
 // An event: nobody runs who could call, the number is none (or the index no device's), it is the caller's own, it is not live, its thread awaits no reply of

@@ -27,13 +27,14 @@ pub struct Pending {
     pub high: u16,
 }
 
+// A number that names nobody, and an index that names no device, are these bytes in the table, in an image, in a log and to C.
 pub const NOBODY: u8 = 255;
 
 pub const NO_DEVICE: u8 = 255;
 
 pub const LAST_NUMBER: u8 = 253;
 
-// The standings of document 01's table, and that of an empty place.
+// The standings of document 01's table, and that of an empty place. They are numbers, and no enum: a state may have any byte for one, and gets its proper reply.
 pub const EMPTY: u8 = 0;
 
 pub const RUNNING: u8 = 1;
@@ -162,7 +163,7 @@ fn of_terminal(first: u8, terminal: u8) -> Device
 }
 
 impl Port {
-    // Its index. NO_DEVICE where there is no such port.
+    // Its index. NO_DEVICE where there is no such port, and no Option: the promise is the rule's own `index_of`, a number.
     pub fn index(self) -> Device
         ensures { result.0 ≡ index_of self }
     {
@@ -175,7 +176,7 @@ impl Port {
 }
 
 impl Choice {
-    // The choice as a number: 0 run, 1 halt, 2 wait, 3 stuck.
+    // The choice as a number, for C: 0 run, 1 halt, 2 wait, 3 stuck.
     pub fn kind(self) -> u8
         ensures { result ≡ choice_kind self }
     {
@@ -187,7 +188,7 @@ impl Choice {
         }
     }
 
-    // The number that runs, or that of nobody.
+    // The number that runs, or that of nobody, for C.
     pub fn runs(self) -> Number
         ensures { result.0 ≡ choice_runs self }
     {

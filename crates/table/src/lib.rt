@@ -73,7 +73,7 @@ pub struct Desk {
     pub running: Place,
 }
 
-// The answer to a thread's last finished call.
+// The answer to a thread's last finished call. Its code is the document's number, which an image has.
 #[derive(Clone, Copy, PartialEq, Eq)]
 pub struct Answer {
     pub code: u8,
@@ -153,7 +153,7 @@ impl Table {
         (self.blocks[STANDING + at] == rules::AWAITING) & (self.blocks[PARTNER + at] == k.0)
     }
 
-    // The fields of the thread at p, one by one.
+    // The fields of the thread at p, one by one: with the row as a parameter there would be one function, and each call of it longer.
     pub fn number_of(&self, p: Place) -> Number
         requires { p.0 < places }
         ensures { result.0 ≡ get_or self.now.blocks (cell 0 p.0) 0 }
