@@ -18,13 +18,13 @@ use Rattle.events.specs.Events.{Did, answered, refused, done, no_word}
 use Rattle.life.specs.Drain.{drained, drains, Spares}
 
 -- the caller, who runs at p and stands in no line
-pub record Calls (d : Desk) (l : List ℕ) (p : ℕ) : Type 0 where
+pub record CallsAt (d : Desk) (l : List ℕ) (p : ℕ) : Type 0 where
   pub is : p ≡ d.running.0
   pub busy : d.running.0 ≡ none → ⊥
   pub place : p < places
   pub loose : Loose line_count (line_of places l) p
 
-pub calls : {d : Desk} {b w l : List ℕ} → Stands d b w l → {o : Option Place} → o ≡ place_known d.running.0 → {p : Place} → o ≡ Some p → Calls d l p.0
+pub calls : {d : Desk} {b w l : List ℕ} → Stands d b w l → {o : Option Place} → o ≡ place_known d.running.0 → {p : Place} → o ≡ Some p → CallsAt d l p.0
 calls k e f = let z = place_some e f in record { is = z.0; busy = z.1; place = rw z.0 (caller_place k z.1); loose = rw z.0 (caller_loose k z.1) }
 
 -- ---- 6

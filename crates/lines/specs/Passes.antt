@@ -13,13 +13,13 @@ abbrev pub left : ℕ → List ℕ → ℕ → ℕ → List ℕ
 left P l q p = on_from p (line_of P l q)
 
 -- the same, where the walk knows who is next, if anybody is
-abbrev pub ahead : ℕ → List ℕ → ℕ → Option ℕ → List ℕ
-ahead P l q None = []
-ahead P l q (Some p) = left P l q p
+abbrev pub left_from : ℕ → List ℕ → ℕ → Option ℕ → List ℕ
+left_from P l q None = []
+left_from P l q (Some p) = left P l q p
 
-pub ahead_short : (P : ℕ) (l : List ℕ) (q : ℕ) {o : Option ℕ} (x : ℕ) → o ≡ known x → length (ahead P l q o) ≤ length (left P l q x)
-ahead_short P l q {o = None} x e = omega arith
-ahead_short P l q {o = Some p} x e = let z = ap (λ (y : ℕ). length (left P l q y)) (known_some e refl).0 in omega arith
+pub left_from_short : (P : ℕ) (l : List ℕ) (q : ℕ) {o : Option ℕ} (x : ℕ) → o ≡ known x → length (left_from P l q o) ≤ length (left P l q x)
+left_from_short P l q {o = None} x e = omega arith
+left_from_short P l q {o = Some p} x e = let z = ap (λ (y : ℕ). length (left P l q y)) (known_some e refl).0 in omega arith
 
 -- the walk has come to p
 abbrev pub Reaches : ℕ → List ℕ → ℕ → ℕ → Type 0
@@ -72,11 +72,11 @@ module _ {P N : ℕ} {l : List ℕ} {q : ℕ} (k : Tidy P N l) (small : P ≤ no
             },
           )
 
-      pub walk_less : {o : Option ℕ} → Next P N l p o → length (ahead P l q o) < length (left P l q p)
+      pub walk_less : {o : Option ℕ} → Next P N l p o → length (left_from P l q o) < length (left P l q p)
       walk_less t =
           let s = walk_on t in
           let a = ap length s.2.left_is in
-          let e = ahead_short P l q s.0 s.1 in
+          let e = left_from_short P l q s.0 s.1 in
           omega arith
 
 -- ---- the line is counted: n so far

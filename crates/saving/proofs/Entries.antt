@@ -13,8 +13,8 @@ use Rattle.table.specs.Rows.{thread_at, line_at}
 use Rattle.saving.specs.Format.{body_length, thread_bytes, parent_bytes, body_of, bodies, contents}
 use Rattle.saving.specs.Queues.{inbox_at}
 use Rattle.saving.proofs.Longest.{parent_length}
-use Rattle.saving.specs.Parts.{held, here, inbox_in, body_in}
-use Rattle.saving.specs.Puts.{Room, Puts, puts_none, room_first, room_then, puts_then}
+use Rattle.saving.specs.Parts.{held, here, inbox_part, body_in}
+use Rattle.saving.specs.Puts.{HasRoom, Puts, puts_none, room_first, room_then, puts_then}
 use Rattle.saving.specs.declared.format.Row.{Row}
 use Rattle.saving.specs.declared.writer.Writer.{Writer}
 use Rattle.saving.specs.Entries.{EntryPut, PutsEntry}
@@ -85,7 +85,7 @@ module _ (row : Row) (a : Arrays) (p : Place) (h : p < places) {t : Thread} (e :
     inbox_is : line (held a) (inbox p) ≡ line_of places a.lines (queue_count + p)
     inbox_is = let i = inbox_at p in rw (line_at none none a.table.blocks a.table.words a.lines (inbox p) (omega arith), i)
 
-    pub body_one : body_in row a p ≡ thread_bytes t ++ inbox_in row t.parent a.lines (queue_count + p)
+    pub body_one : body_in row a p ≡ thread_bytes t ++ inbox_part row t.parent a.lines (queue_count + p)
     body_one = ap (bodies row (held a)) one_here ∙ append-nil (body_of row (held a) p) ∙ rw (inbox_is, thread_at none none a.table.blocks a.table.words a.lines p h, e)
 
     pub entry_one : (o : ℕ) → contents row (held a) o (here (held a) p) ≡ p ∷ t.number ∷ two_bytes o
@@ -94,22 +94,22 @@ module _ (row : Row) (a : Arrays) (p : Place) (h : p < places) {t : Thread} (e :
     size : length (body_in row a p) ≡ body_length row + length (line_of places a.lines (queue_count + p))
     size = let n = parent_length row t.parent in ap length body_one ∙ simp length-append (omega arith)
 
-    module _ (v : Writer) (room : Room v (body_in row a p)) where
-      parts : Room v (thread_bytes t ++ inbox_in row t.parent a.lines (queue_count + p))
+    module _ (v : Writer) (room : HasRoom v (body_in row a p)) where
+      parts : HasRoom v (thread_bytes t ++ inbox_part row t.parent a.lines (queue_count + p))
       parts = let i = ap length body_one in omega arith
 
-      pub thread_room : Room v (thread_bytes t)
-      thread_room = room_first v (thread_bytes t) (inbox_in row t.parent a.lines (queue_count + p)) parts
+      pub thread_room : HasRoom v (thread_bytes t)
+      thread_room = room_first v (thread_bytes t) (inbox_part row t.parent a.lines (queue_count + p)) parts
 
       module _ {u : Writer} (q : Puts v (thread_bytes t) u) where
-        pub inbox_room : Room u (inbox_in row t.parent a.lines (queue_count + p))
-        inbox_room = room_then q (inbox_in row t.parent a.lines (queue_count + p)) parts
+        pub inbox_room : HasRoom u (inbox_part row t.parent a.lines (queue_count + p))
+        inbox_room = room_then q (inbox_part row t.parent a.lines (queue_count + p)) parts
 
-        pub body_whole : {w : Writer} → Puts u (inbox_in row t.parent a.lines (queue_count + p)) w → Puts v (body_in row a p) w
-        body_whole i = rw body_one (puts_then q (inbox_in row t.parent a.lines (queue_count + p)) parts i)
+        pub body_whole : {w : Writer} → Puts u (inbox_part row t.parent a.lines (queue_count + p)) w → Puts v (body_in row a p) w
+        body_whole i = rw body_one (puts_then q (inbox_part row t.parent a.lines (queue_count + p)) parts i)
 
     module _ {v : Writer} {o : ℕ} (k : PutsEntry row a p v o) {x : List ℕ} (i : x ≡ p ∷ t.number ∷ two_bytes o) where
-      pub entry_room : Room v x
+      pub entry_room : HasRoom v x
       entry_room = let j = ap length i in let f = ap length (entry_one o) in let g = k.room in omega arith
 
       pub entry_whole : {w : Writer} {n b : ℕ} → Puts v x w → n ≡ length (line_of places a.lines (queue_count + p)) → b ≡ n → {c : ℕ} → c ≡ body_length row → EntryPut row (held a) p v o w (o + c + b)

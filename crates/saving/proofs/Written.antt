@@ -21,7 +21,7 @@ use Rattle.saving.specs.Queues.{sizes_same, joined_same, lengths_length}
 use Rattle.saving.specs.Longest.{longest_image}
 use Rattle.saving.proofs.Longest.{live_length, tail_length, encode_length, longest_as}
 use Rattle.saving.specs.Parts.{held, bodies_in, contents_in, tail_in, tail_same}
-use Rattle.saving.specs.Puts.{Room, room_first}
+use Rattle.saving.specs.Puts.{HasRoom, room_first}
 use Rattle.saving.specs.declared.format.Row.{Row}
 use Rattle.saving.specs.declared.writer.Writer.{Writer}
 use Rattle.saving.specs.Written.{Written, PutsContents, PutsTail, lengths_in, waiting_in, head_of}
@@ -42,7 +42,7 @@ module _ {row : Row} {a : Arrays} {v : Writer} {o : ℕ} (k : PutsTail row a v o
   pub tail_is : tail_in row a ≡ contents_in row a o ++ (waiting_in row a.lines ++ bodies_in row a)
   tail_is = rw (← k.first, queues_are row k.few a)
 
-  pub tail_room : Room v (contents_in row a o ++ (waiting_in row a.lines ++ bodies_in row a))
+  pub tail_room : HasRoom v (contents_in row a o ++ (waiting_in row a.lines ++ bodies_in row a))
   tail_room = let i = ap length tail_is in let h = k.room in omega arith
 
   pub tail_contents : PutsContents row a v o

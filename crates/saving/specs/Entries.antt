@@ -7,7 +7,7 @@ use Rattle.table.specs.declared.Arrays.{Arrays}
 use Rattle.saving.specs.Format.{bodies, contents}
 use Rattle.saving.specs.Longest.{longest_image}
 use Rattle.saving.specs.Parts.{held, here, body_in}
-use Rattle.saving.specs.Puts.{Room, Puts}
+use Rattle.saving.specs.Puts.{HasRoom, Puts}
 use Rattle.saving.specs.declared.format.Row.{Row}
 use Rattle.saving.specs.declared.writer.Writer.{Writer}
 
@@ -20,5 +20,5 @@ pub record EntryPut (row : Row) (m : Model) (p : Place) (v : Writer) (o : ℕ) (
 pub record PutsEntry (row : Row) (a : Arrays) (p : Place) (v : Writer) (o : ℕ) : Type 0 where
   pub lines : Tidy places line_count a.lines
   pub place : p < places
-  pub room : Room v (contents row (held a) o (here (held a) p))
+  pub room : HasRoom v (contents row (held a) o (here (held a) p))
   pub low : o + length (body_in row a p) ≤ longest_image

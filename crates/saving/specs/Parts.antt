@@ -27,8 +27,8 @@ lives_from m p = only (lives_at m) (up_from p (places - p))
 
 -- the parts of the arrays' image that the contracts name: an inbox, line q, with the parent n; the body of p, if it lives; all bodies; the contents, for a first
 -- body at o; all behind the head
-abbrev pub inbox_in : Row → Number → List ℕ → ℕ → List ℕ
-inbox_in row n l q = length (line_of places l q) ∷ parent_bytes row n ++ line_of places l q
+abbrev pub inbox_part : Row → Number → List ℕ → ℕ → List ℕ
+inbox_part row n l q = length (line_of places l q) ∷ parent_bytes row n ++ line_of places l q
 
 abbrev pub body_in : Row → Arrays → Place → List ℕ
 body_in row a p = bodies row (held a) (here (held a) p)

@@ -9,7 +9,7 @@ use Rattle.saving.specs.Format.{live_places, bodies, contents}
 use Rattle.saving.specs.Longest.{longest_image}
 use Rattle.saving.specs.Parts.{held, here, lives_from, lives_start, lives_step, lives_end, bodies_append, contents_append}
 use Rattle.saving.specs.Entries.{PutsEntry, EntryPut}
-use Rattle.saving.specs.Puts.{Room, Puts, Putting, putting_start, putting_by, putting_room, putting_more, putting_end}
+use Rattle.saving.specs.Puts.{HasRoom, Puts, Putting, putting_start, putting_by, putting_room, putting_more, putting_end}
 use Rattle.saving.specs.declared.format.Row.{Row}
 use Rattle.saving.specs.declared.writer.Writer.{Writer}
 
@@ -17,7 +17,7 @@ use Rattle.saving.specs.declared.writer.Writer.{Writer}
 pub record Embodies (row : Row) (m : Model) (v w : Writer) (p : Place) : Type 0 where
   pub putting : Putting v (bodies row m (live_places m)) w (bodies row m (lives_from m p))
 
-pub bodies_start : (row : Row) (m : Model) (v : Writer) → Room v (bodies row m (live_places m)) → Embodies row m v v 0
+pub bodies_start : (row : Row) (m : Model) (v : Writer) → HasRoom v (bodies row m (live_places m)) → Embodies row m v v 0
 bodies_start row m v h = record { putting = rw (lives_start m) (putting_start v (bodies row m (live_places m)) h) }
 
 module _ {row : Row} {m : Model} {v w : Writer} {p : Place} (g : Embodies row m v w p) where
@@ -28,13 +28,13 @@ module _ {row : Row} {m : Model} {v w : Writer} {p : Place} (g : Embodies row m 
     split : Putting v (bodies row m (live_places m)) w (bodies row m (here m p) ++ bodies row m (lives_from m (p + 1)))
     split = putting_by g.putting bodies_left
 
-    pub bodies_room : Room w (bodies row m (here m p))
+    pub bodies_room : HasRoom w (bodies row m (here m p))
     bodies_room = putting_room (bodies row m (here m p)) (bodies row m (lives_from m (p + 1))) split
 
     pub bodies_more : {u : Writer} → Puts w (bodies row m (here m p)) u → Embodies row m v u (p + 1)
     bodies_more q = record { putting = putting_more split q }
 
-  pub bodies_length_is : Room v (bodies row m (live_places m)) → length w.out.now ≡ length v.out.now
+  pub bodies_length_is : HasRoom v (bodies row m (live_places m)) → length w.out.now ≡ length v.out.now
   bodies_length_is h = sym g.putting.going.whole ∙ laid_length v.out.now v.at (bodies row m (live_places m)) h
 
   pub bodies_end : places ≤ p → Puts v (bodies row m (live_places m)) w
@@ -45,7 +45,7 @@ pub record Lists (row : Row) (m : Model) (v : Writer) (o : ℕ) (w : Writer) (u 
   pub putting : Putting v (contents row m o (live_places m)) w (contents row m u (lives_from m p))
   pub body : o + length (bodies row m (live_places m)) ≡ u + length (bodies row m (lives_from m p))
 
-pub contents_start : (row : Row) (m : Model) (v : Writer) (o : ℕ) → Room v (contents row m o (live_places m)) → Lists row m v o v o 0
+pub contents_start : (row : Row) (m : Model) (v : Writer) (o : ℕ) → HasRoom v (contents row m o (live_places m)) → Lists row m v o v o 0
 contents_start row m v o h = record { putting = rw (lives_start m) (putting_start v (contents row m o (live_places m)) h); body = rw (lives_start m) }
 
 module _ {row : Row} {m : Model} {v : Writer} {o : ℕ} {w : Writer} {u : ℕ} {p : Place} (g : Lists row m v o w u p) where
@@ -65,13 +65,13 @@ module _ {row : Row} {m : Model} {v : Writer} {o : ℕ} {w : Writer} {u : ℕ} {
       body = let a = size in let b = q.body in let c = g.body in omega arith;
     }
 
-    pub contents_room : Room w (contents row m u (here m p))
+    pub contents_room : HasRoom w (contents row m u (here m p))
     contents_room = putting_room (contents row m u (here m p)) (contents row m (u + length (bodies row m (here m p))) (lives_from m (p + 1))) next
 
     pub contents_low : o + length (bodies row m (live_places m)) ≤ longest_image → u + length (bodies row m (here m p)) ≤ longest_image
     contents_low i = let a = size in let c = g.body in omega arith
 
-  pub contents_length_is : Room v (contents row m o (live_places m)) → length w.out.now ≡ length v.out.now
+  pub contents_length_is : HasRoom v (contents row m o (live_places m)) → length w.out.now ≡ length v.out.now
   contents_length_is h = sym g.putting.going.whole ∙ laid_length v.out.now v.at (contents row m o (live_places m)) h
 
   pub contents_end : places ≤ p → Puts v (contents row m o (live_places m)) w

@@ -8,7 +8,7 @@ use Rattle.lists.specs.Search.{up_from_step, up_from_length}
 use Rattle.lists.specs.Laid.{laid_length}
 use Rattle.rules.specs.Model.{Place, places, line_count, inbox}
 use Rattle.saving.specs.Format.{queues_in, sizes, joined}
-use Rattle.saving.specs.Puts.{Room, Puts, Putting, putting_start, putting_by, putting_room, putting_more, putting_end}
+use Rattle.saving.specs.Puts.{HasRoom, Puts, Putting, putting_start, putting_by, putting_room, putting_more, putting_end}
 use Rattle.saving.specs.declared.format.Row.{Row}
 use Rattle.saving.specs.declared.writer.Writer.{Writer}
 
@@ -98,7 +98,7 @@ module _ (f : ℕ → List Place) (row : Row) where
 pub record Queueing (g : List ℕ → List ℕ) (row : Row) (v w : Writer) (q : ℕ) : Type 0 where
   pub putting : Putting v (g (queues_in row)) w (g (queues_from row q))
 
-pub queueing_start : (g : List ℕ → List ℕ) (row : Row) (v : Writer) → Room v (g (queues_in row)) → Queueing g row v v 0
+pub queueing_start : (g : List ℕ → List ℕ) (row : Row) (v : Writer) → HasRoom v (g (queues_in row)) → Queueing g row v v 0
 queueing_start g row v h = record { putting = rw (queues_start row) (putting_start v (g (queues_in row)) h) }
 
 module _ {g : List ℕ → List ℕ} {row : Row} {v w : Writer} {q : ℕ} (k : Queueing g row v w q) where
@@ -107,13 +107,13 @@ module _ {g : List ℕ → List ℕ} {row : Row} {v w : Writer} {q : ℕ} (k : Q
     split : Putting v (g (queues_in row)) w (ys ++ g (queues_from row (q + 1)))
     split = putting_by k.putting (ap g (queues_step row q h) ∙ adds (queues_from row (q + 1)))
 
-    pub queueing_room : Room w ys
+    pub queueing_room : HasRoom w ys
     queueing_room = putting_room ys (g (queues_from row (q + 1))) split
 
     pub queueing_more : {u : Writer} → Puts w ys u → Queueing g row v u (q + 1)
     queueing_more p = record { putting = putting_more split p }
 
-  pub queueing_length : Room v (g (queues_in row)) → length w.out.now ≡ length v.out.now
+  pub queueing_length : HasRoom v (g (queues_in row)) → length w.out.now ≡ length v.out.now
   queueing_length h = sym k.putting.going.whole ∙ laid_length v.out.now v.at (g (queues_in row)) h
 
   pub queueing_end : g [] ≡ [] → row.queues ≤ q → Puts v (g (queues_in row)) w

@@ -2,6 +2,7 @@
 use Rattle.std.specs.Prelude.{ℕ, ◌+◌, ◌≤◌, ◌<◌, ◌≡◌, refl, List, ◌++◌, false, length, take, drop}
 use Rattle.std.proofs.Common.{sym, ap, ◌∙◌, arith, length-append, length-take-le, take_at}
 use Rattle.lists.specs.Sizes.{queue_count}
+use Rattle.lists.specs.Laid.{laid, Wrote, laid_front}
 use Rattle.table.specs.Cells.{StandsByIn}
 use Rattle.nucleus.specs.View.{view, Consists}
 use Rattle.nucleus.specs.declared.State.{State}
@@ -41,7 +42,13 @@ module _ {s : State} (k : Consists s) {row : Row} (f : row ≡ newest) {i t : Li
     pub save_room : r ≤ length before → 0 + length (take r t) ≤ length before
     save_room h = let a = image_size in omega arith
 
-    pub save_0 : r ≤ length before → {xs : List ℕ} → xs ≡ take r t → Saves s before 0 r (xs ++ drop r before)
-    save_0 h e =
+    pub save_0 : r ≤ length before → {a : List ℕ} {v : ℕ} → Wrote before 0 (take r t) a v → Saves s before 0 r a
+    save_0 h q =
+        let z = image.size in
+        saved k (omega arith) (record { code_is = refl; length_is = z; bytes_are = q.bytes ∙ ap (laid before 0) image_is ∙ laid_front before (encode (view s)) })
+
+    -- the same of bytes that were copied to the front
+    pub save_copied : r ≤ length before → {xs : List ℕ} → xs ≡ take r t → Saves s before 0 r (xs ++ drop r before)
+    save_copied h e =
         let z = image.size in
         saved k (omega arith) (record { code_is = refl; length_is = z; bytes_are = rw (e, image_is, z) })

@@ -11,7 +11,7 @@ use Rattle.table.specs.declared.Arrays.{Arrays}
 use Rattle.saving.specs.Format.{head_length, queues_in, sizes, joined, first_body, encode_as}
 use Rattle.saving.specs.Longest.{longest_image}
 use Rattle.saving.specs.Parts.{held, bodies_in, contents_in, tail_in}
-use Rattle.saving.specs.Puts.{Room}
+use Rattle.saving.specs.Puts.{HasRoom}
 use Rattle.saving.specs.declared.format.Row.{Row}
 use Rattle.saving.specs.declared.writer.Writer.{Writer}
 
@@ -23,7 +23,7 @@ pub record Written (row : Row) (m : Model) (s t : List ℕ) (r : ℕ) : Type 0 w
 -- what the contents ask for
 pub record PutsContents (row : Row) (a : Arrays) (v : Writer) (o : ℕ) : Type 0 where
   pub lines : Tidy places line_count a.lines
-  pub room : Room v (contents_in row a o)
+  pub room : HasRoom v (contents_in row a o)
   pub low : o + length (bodies_in row a) ≤ longest_image
 
 -- and all behind the head
@@ -31,7 +31,7 @@ pub record PutsTail (row : Row) (a : Arrays) (v : Writer) (o : ℕ) : Type 0 whe
   pub lines : Tidy places line_count a.lines
   pub few : row.queues ≤ queue_count
   pub first : o ≡ first_body row (held a)
-  pub room : Room v (tail_in row a)
+  pub room : HasRoom v (tail_in row a)
   pub low : head_length row + length (tail_in row a) ≤ longest_image
 
 -- the lengths of a row's queues in the array of lines, and their places

@@ -9,9 +9,9 @@ ghost use Rattle.lines.specs.Lines.{line_of, Tidy};
 ghost use Rattle.table.specs.Cells.{as_thread, shown_in, StandsByIn};
 ghost use Rattle.nucleus.specs.View.{Consists};
 ghost use Rattle.saving.specs.Format.{head_length, entry_length, thread_bytes, parent_bytes};
-ghost use Rattle.saving.specs.Puts.{Room, Puts};
+ghost use Rattle.saving.specs.Puts.{HasRoom, Puts};
 ghost use Rattle.saving.specs.Longest.{longest_image};
-ghost use Rattle.saving.specs.Parts.{held, inbox_in, body_in, bodies_in, contents_in, tail_in};
+ghost use Rattle.saving.specs.Parts.{held, inbox_part, body_in, bodies_in, contents_in, tail_in};
 ghost use Rattle.saving.specs.Entries.{EntryPut, PutsEntry};
 ghost use Rattle.saving.specs.Written.{PutsContents, PutsTail, lengths_in, waiting_in, head_of, Written};
 ghost use Rattle.saving.specs.Save.{Saves};
@@ -48,7 +48,7 @@ fn measure(l: &Links, q: u8) -> u8
 
 // Writes the places of line q, front first.
 fn put_line(w: &mut Writer, l: &Links, q: u8)
-    requires { Tidy places line_count l.now × (q < line_count) × Room w.old (line_of places l.now q) }
+    requires { Tidy places line_count l.now × (q < line_count) × HasRoom w.old (line_of places l.now q) }
     ensures { Puts w.old (line_of places l.now q) w.new }
 {
     let mut next = lines::first(l, q);
@@ -76,7 +76,7 @@ fn entry(p: Place, n: Number, offset: u16) -> [u8; ENTRY]
 
 // Writes a thread without its parent and its inbox.
 fn put_thread(w: &mut Writer, t: Thread)
-    requires { Room w.old (thread_bytes (as_thread t)) }
+    requires { HasRoom w.old (thread_bytes (as_thread t)) }
     ensures { Puts w.old (thread_bytes (as_thread t)) w.new }
 {
     let answer = t.answer;
@@ -86,7 +86,7 @@ fn put_thread(w: &mut Writer, t: Thread)
 
 // Writes the parent n, if the row has it.
 fn put_parent(w: &mut Writer, row: Row, n: Number)
-    requires { Room w.old (parent_bytes row n.0) }
+    requires { HasRoom w.old (parent_bytes row n.0) }
     ensures { Puts w.old (parent_bytes row n.0) w.new }
 {
     if row.parents {
@@ -96,8 +96,8 @@ fn put_parent(w: &mut Writer, row: Row, n: Number)
 
 // Writes an inbox, line q: its length, the parent n if the row has it, and its places.
 fn put_inbox(w: &mut Writer, row: Row, n: Number, l: &Links, q: u8)
-    requires { Tidy places line_count l.now × (q < line_count) × Room w.old (inbox_in row n.0 l.now q) }
-    ensures { Puts w.old (inbox_in row n.0 l.now q) w.new }
+    requires { Tidy places line_count l.now × (q < line_count) × HasRoom w.old (inbox_part row n.0 l.now q) }
+    ensures { Puts w.old (inbox_part row n.0 l.now q) w.new }
 {
     w.push(measure(l, q));
     put_parent(w, row, n);
@@ -106,7 +106,7 @@ fn put_inbox(w: &mut Writer, row: Row, n: Number, l: &Links, q: u8)
 
 // Writes the body of the place p, if a thread lives there.
 fn put_body(w: &mut Writer, row: Row, a: &Arrays, p: Place)
-    requires { Tidy places line_count a.now.lines × (p.0 < places) × Room w.old (body_in row a.now p.0) }
+    requires { Tidy places line_count a.now.lines × (p.0 < places) × HasRoom w.old (body_in row a.now p.0) }
     ensures { Puts w.old (body_in row a.now p.0) w.new }
 {
     let t = a.table.read(p);
@@ -146,7 +146,7 @@ fn put_contents(w: &mut Writer, row: Row, a: &Arrays, first: u16)
 
 // Writes the bodies.
 fn put_bodies(w: &mut Writer, row: Row, a: &Arrays)
-    requires { Tidy places line_count a.now.lines × Room w.old (bodies_in row a.now) }
+    requires { Tidy places line_count a.now.lines × HasRoom w.old (bodies_in row a.now) }
     ensures { Puts w.old (bodies_in row a.now) w.new }
 {
     for p in 0..lines::PLACES as u8 {
@@ -156,7 +156,7 @@ fn put_bodies(w: &mut Writer, row: Row, a: &Arrays)
 
 // Writes the places of a row's queues.
 fn put_queues(w: &mut Writer, row: Row, l: &Links)
-    requires { Tidy places line_count l.now × (row.queues ≤ queue_count) × Room w.old (waiting_in row l.now) }
+    requires { Tidy places line_count l.now × (row.queues ≤ queue_count) × HasRoom w.old (waiting_in row l.now) }
     ensures { Puts w.old (waiting_in row l.now) w.new }
 {
     for q in 0..row.queues {
@@ -188,7 +188,7 @@ fn first_body(row: Row, l: &Links, live: u8) -> u16
 
 // Writes the lengths of a row's queues.
 fn put_lengths(w: &mut Writer, row: Row, l: &Links)
-    requires { Tidy places line_count l.now × (row.queues ≤ queue_count) × Room w.old (lengths_in row l.now) }
+    requires { Tidy places line_count l.now × (row.queues ≤ queue_count) × HasRoom w.old (lengths_in row l.now) }
     ensures { Puts w.old (lengths_in row l.now) w.new }
 {
     for q in 0..row.queues {
@@ -198,7 +198,7 @@ fn put_lengths(w: &mut Writer, row: Row, l: &Links)
 
 // Writes the head: edition, last number, running place, live count, the lengths of the queues, total length.
 fn put_head(w: &mut Writer, row: Row, l: &Links, d: Desk, live: u8, total: u16)
-    requires { Tidy places line_count l.now × (row.queues ≤ queue_count) × Room w.old (head_of row d.last.0 d.running.0 live (lengths_in row l.now) total) }
+    requires { Tidy places line_count l.now × (row.queues ≤ queue_count) × HasRoom w.old (head_of row d.last.0 d.running.0 live (lengths_in row l.now) total) }
     ensures { Puts w.old (head_of row d.last.0 d.running.0 live (lengths_in row l.now) total) w.new }
 {
     w.put(&[row.edition, d.last.0, d.running.0, live]);

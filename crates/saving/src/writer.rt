@@ -1,6 +1,6 @@
 // Where the next bytes go: a buffer, and the position up to which it is written.
 ghost use Rattle.std.specs.Prelude.{[], ◌∷◌};
-ghost use Rattle.saving.specs.Puts.{Room, Puts};
+ghost use Rattle.saving.specs.Puts.{HasRoom, Puts};
 
 #[derive(Drop)]
 pub struct Writer<'a> {
@@ -11,7 +11,7 @@ pub struct Writer<'a> {
 impl Writer<'_> {
     // Writes bytes at the position, which then stands behind them. Every other byte stays as it was.
     pub fn put(&mut self, bytes: &[u8])
-        requires { Room self.old bytes.now }
+        requires { HasRoom self.old bytes.now }
         ensures { Puts self.old bytes.now self.new }
     {
         let end = self.at + bytes.len();
@@ -21,7 +21,7 @@ impl Writer<'_> {
 
     // Writes one byte.
     pub fn push(&mut self, byte: u8)
-        requires { Room self.old (byte ∷ []) }
+        requires { HasRoom self.old (byte ∷ []) }
         ensures { Puts self.old (byte ∷ []) self.new }
     {
         self.out[self.at] = byte;

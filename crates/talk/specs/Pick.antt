@@ -4,7 +4,7 @@ use Rattle.std.proofs.Common.{sym, ap, ◌∙◌, arith}
 use Rattle.lists.specs.Lists.{none, known, KnownBy, front, first_of}
 use Rattle.lists.specs.Known.{known_some, known_of}
 use Rattle.lines.specs.Lines.{line_of, Tidy, Next}
-use Rattle.lines.specs.Passes.{left, ahead, Reaches, Passes, left_all, walk_start, walk_here, walk_end, walk_place, walk_on, walk_less}
+use Rattle.lines.specs.Passes.{left, left_from, Reaches, Passes, left_all, walk_start, walk_here, walk_end, walk_place, walk_on, walk_less}
 use Rattle.rules.specs.Model.{places, line_count}
 use Rattle.rules.specs.Rules.{wants}
 use Rattle.table.specs.Cells.{cell}
@@ -53,5 +53,5 @@ module _ {b l : List ℕ} {q n p : ℕ} (g : Picking b l q n p) (k : Tidy places
           let s = onward in
           (s.0, s.1, record { reaches = s.2.reaches; goes = g.goes ∙ ap (first_of (taken b n)) s.2.left_is ∙ rw y })
 
-      pub pick_less : length (ahead places l q o) < length (left places l q p)
+      pub pick_less : length (left_from places l q o) < length (left places l q p)
       pick_less = walk_less k (omega arith) h g.reaches f t

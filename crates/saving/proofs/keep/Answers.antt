@@ -1,6 +1,6 @@
 -- `keep` meets its contract: 7 for a buffer that is too short, else the image in front.
 use native.Mathlib.Omega.{arith}
-use Rattle.saving.specs.Saving.{save_stands, save_few, image_fits, save_7, save_0}
+use Rattle.saving.specs.Saving.{save_stands, save_few, image_fits, save_7, save_copied}
 use Rattle.saving.proofs.keep.Goals as goal
 
 pub write-n-requires : goal.write-n-requires
@@ -17,4 +17,4 @@ slice_bounds-image-end c =
 
 pub returns : goal.returns
 returns c =
-    save_0 c.requires c.newest.ensures c.write-n.ensures c.args.buffer.now c.if-buffer-n.false c.copy_from_slice.ensures.after
+    save_copied c.requires c.newest.ensures c.write-n.ensures c.args.buffer.now c.if-buffer-n.false c.copy_from_slice.ensures.after
