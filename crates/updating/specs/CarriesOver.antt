@@ -1,5 +1,5 @@
 -- A state is carried over: all who listen for the dead have been woken, and the front of ready started.
-use Rattle.std.specs.Prelude.{ℕ, ◌≡◌, List, [], false}
+use Rattle.std.specs.Prelude.{◌≡◌, [], false}
 use Rattle.std.proofs.Common.{sym, ap, subst, ◌∙◌}
 use Rattle.rules.specs.Model.{places, Model, lives_at}
 use Rattle.rules.specs.Rules.{dispatched, deserted, updated}

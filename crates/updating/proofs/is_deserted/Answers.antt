@@ -1,5 +1,5 @@
 -- `is_deserted` meets its contract: it goes by the cases of the test.
-use mathlib.Core.Path.{◌≡◌, refl, sym, ap, ◌∙◌}
+use mathlib.Core.Path.{refl, sym, ap, ◌∙◌}
 use native.Mathlib.Omega.{arith}
 use Rattle.std.specs.Prelude.{is_some}
 use Rattle.updating.specs.Deserted.{lost}
