@@ -1,3 +1,4 @@
+pub mod Puts
 pub mod Sheets
 pub mod Longest
 pub mod Telling

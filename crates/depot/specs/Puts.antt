@@ -146,13 +146,6 @@ pub count_bytes : (m : Model) {n r c : ℕ} → n ≡ live m → r ≡ how_many 
 unfolding ascii
 count_bytes m e f g = rw (e, f, g) refl
 
--- the same, where the live are counted in the filled set
-pub counted_bytes : (b w : List ℕ) {x n r c : ℕ} → Filled x b → ((f : ℕ → Bool) → x ≡ word_of width f → n ≡ tally width f)
-    → r ≡ how_many (crew_of b w) Ready → c ≡ how_many (crew_of b w) Waiting
-    → line_bytes (count_line (crew_of b w)) ≡ (ascii "threads " ++ decimal n) ++ ((ascii " ready " ++ decimal r) ++ (ascii " clock " ++ (decimal c ++ (newline ∷ []))))
-unfolding ascii
-counted_bytes b w k e f g = let h = live_count b w k e in rw (h, f, g) refl
-
 -- sends that wait are those in an inbox and those received
 tally_either : (n : ℕ) (f g : ℕ → Bool) → ((i : ℕ) → f i ≡ true → g i ≡ true → ⊥) → tally n (λ i. f i || g i) ≡ tally n f + tally n g
 unfolding tally
