@@ -2,7 +2,7 @@
 // with stored output.
 #![tactic(auto)]
 
-ghost use Rattle.std.specs.Prelude.{◌≡◌, IfSome};
+ghost use Rattle.std.specs.Prelude.{◌≡◌, IfSome, take};
 ghost use Rattle.std.specs.Io.{ReadsAtMost};
 ghost use Rattle.std.specs.Counts.{IsPrefixLen};
 
@@ -40,9 +40,9 @@ impl<'a> fmt::Display for Lossy<'a> {
     }
 }
 
-// What is wrong, which goes to standard error. Where it cannot be written either, there is nobody left to tell.
-pub fn complain(rt: &impl Eprint, what: &str) {
-    let _ = rt.eprint(what);
+// What is wrong, which goes to standard error. What is no text in it shows as U+FFFD. Where this cannot be written either, there is nobody left to tell.
+pub fn complain(rt: &impl Eprint, what: &[u8]) {
+    let _ = rt.eprint(Lossy(what));
 }
 
 // What failed, which goes to standard error with the system's reason.
@@ -59,7 +59,9 @@ fn words(reason: &str) -> &str {
 }
 
 // The first n bytes, as far as there are.
-pub fn front(bytes: &[u8], n: usize) -> &[u8] {
+pub fn front(bytes: &[u8], n: usize) -> &[u8]
+    ensures { result.now ≡ take n bytes.now }
+{
     bytes.get(..n).unwrap_or(bytes)
 }
 

@@ -18,7 +18,7 @@ fn main(rt: HostRuntime) {
     let sheet = sheet_asked(&rt);
     let first = first_folder(sheet);
     if has_option(&rt, first, args) {
-        console::complain(&rt, "usage: depot [--loads] [FOLDER ..]\n");
+        console::complain(&rt, b"usage: depot [--loads] [FOLDER ..]\n");
         return;
     }
     if args <= first {

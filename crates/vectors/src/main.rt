@@ -48,7 +48,7 @@ const ROOM: usize = 524288;
 
 fn main(rt: HostRuntime) -> io::Result<()> {
     if console::arg_count(&rt) != 2 {
-        console::complain(&rt, "usage: vectors FILE (crates/vectors/data/vectors)\n");
+        console::complain(&rt, b"usage: vectors FILE (crates/vectors/data/vectors)\n");
         return Ok(());
     }
     from_file(&rt)
@@ -74,7 +74,7 @@ fn lent(rt: &(impl Env + Files + Print + Eprint), buffer: &mut [u8]) -> io::Resu
     if n > ROOM {
         console::complain(
             rt,
-            "vectors: the file is longer than there is room for (ROOM in crates/vectors/src/main.rt)\n",
+            b"vectors: the file is longer than there is room for (ROOM in crates/vectors/src/main.rt)\n",
         );
         return Ok(());
     }
@@ -86,11 +86,11 @@ fn all(rt: &(impl Print + Eprint), bytes: &[u8]) -> io::Result<()> {
     let mut left = bytes;
     while let Some((byte, rest)) = left.split_first() {
         let Some((vector, behind)) = fields::split(rest) else {
-            console::complain(rt, "vectors: the file ends inside a vector\n");
+            console::complain(rt, b"vectors: the file ends inside a vector\n");
             return Ok(());
         };
         let Ok(kind) = Kind::try_from(*byte) else {
-            console::complain(rt, "vectors: a vector is of no known kind\n");
+            console::complain(rt, b"vectors: a vector is of no known kind\n");
             return Ok(());
         };
         run(rt, kind, vector)?;
